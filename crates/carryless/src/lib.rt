@@ -4,6 +4,9 @@
 // Of a word of 32 bits every fourth bit is taken. In a product of two such words at most eight ones meet at a place, and a place has four
 // bits: nothing is carried into the next, and the lowest bit of each four is the coefficient. Sixteen of these make a product of 32 by 32
 // bits, and nine of those one of 128 by 128 (Karatsuba, twice).
+
+#![tactic(auto)]
+
 pub mod many;
 
 ghost use Rattle.std.specs.Prelude.{◌≡◌, ◌*◌, ◌^◌, ◌<◌, get_or};

@@ -3,7 +3,7 @@ pub use denote.Enum.Declared.{tag_of}
 pub use types.Run.{OneOf}
 pub use Rattle.block.proofs.Base.{Fits, List, [], ◌%◌, ◌*◌, ◌++◌, ◌+◌, ◌-◌, ◌/◌, ◌<◌, ◌^◌, ◌∙◌, ◌∷◌, ◌≡◌, ◌≤◌, ap, append_assoc, append-nil}
 pub use Rattle.block.proofs.Base.{arith, drop, drop-append-add, drop_at, drop-drop, get_or, length, length-append, length-drop, length-set}
-pub use Rattle.block.proofs.Base.{length-take-le, needs, now, refl, reverse, reverse-reverse, sub-zero, suc, sym, take, take-add, take_all}
+pub use Rattle.block.proofs.Base.{length-take-le, rules, refl, reverse, reverse-reverse, sub-zero, suc, sym, take, take-add, take_all}
 pub use Rattle.block.proofs.Base.{take-append-drop, take-append-le, take-append_seam, take_at, w32, zero, ℕ}
 pub use Rattle.block.proofs.Cat.{cat-same, length-block_at, length-cat}
 pub use Rattle.block.proofs.Entries.{below-append, below-drop, below_each, below-replicate, below-take}

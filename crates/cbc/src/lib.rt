@@ -1,4 +1,7 @@
 // Cbc with padding: `cbc_encrypt` and `cbc_decrypt` of libsm's `cipher_mode.rs`.
+
+#![tactic(auto)]
+
 ghost use Rattle.std.specs.Prelude.{◌≡◌, ◌++◌, reverse, ◌+◌, ◌-◌, ◌*◌, ◌/◌, ◌%◌, ◌<◌, ◌≤◌, length, take, drop};
 ghost use Rattle.block.specs.Blocks.{block_at, cat};
 ghost use Rattle.block.specs.Words.{unwords};

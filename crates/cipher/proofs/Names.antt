@@ -8,7 +8,7 @@ pub use Rattle.block.proofs.Base.{Bool, List, [], ◌%◌, ◌*◌, ◌++◌, �
 pub use Rattle.block.proofs.Base.{and_block, and_le_r, and_mask, and_zero_r, ap, append_assoc, append-nil, ap₂, arith, bit_and, bit_or}
 pub use Rattle.block.proofs.Base.{bit_xor, cond, differ, div-one, drop, drop-cons, drop_of_length-le, eq-eqb, eqb, eqb→eq, false, get_or, inl}
 pub use Rattle.block.proofs.Base.{inr, length, lit<, lt_of_le_of_lt, ltb, map, mod-eq_of_lt, mod-lt, mod-pow-add, mul-mod_left, ne_eqb}
-pub use Rattle.block.proofs.Base.{needs, pow_pos, refl, reverse, reverse-reverse, set, shl-shr, shr_lt, shr-shr, split, suc, sym, take}
+pub use Rattle.block.proofs.Base.{rules, pow_pos, refl, reverse, reverse-reverse, set, shl-shr, shr_lt, shr-shr, split, suc, sym, take}
 pub use Rattle.block.proofs.Base.{take_all, take-length, take-suc-set, true, xor_block, xor_lt, xor_mod, xor_shifted, xor_shr, zero}
 pub use Rattle.block.proofs.Base.{zero-add, ℕ, ⊎_elim}
 pub use Rattle.block.proofs.Convert.{bytes_of-bytes, bytes_of-number_of, number_of-lt}

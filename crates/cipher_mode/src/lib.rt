@@ -1,5 +1,8 @@
 // The public calls of libsm's `cipher.rs` and `cipher_mode.rs`. None has a `requires`: whatever the inputs are, the contract
 // gives the whole outcome, by one definition of `specs/Calls.antt`.
+
+#![tactic(auto)]
+
 pub mod answer;
 pub mod checks;
 mod work;

@@ -1,4 +1,7 @@
 // The S-box as exclusive ors and ands, with neither a look-up nor a branch.
+
+#![tactic(auto)]
+
 ghost use Rattle.circuit.specs.Sbox.{SboxLanes};
 
 // The S-box in 64 lanes at once: bit n of the eight words is a byte, its bit i in word i.

@@ -1,5 +1,8 @@
 // The two counter steps: `block_add_one` of libsm's `cipher_mode.rs`, `gcm_block_add_one` of its `gcm.rs`; and whether a
 // counter came round: over one step, and over a whole message.
+
+#![tactic(auto)]
+
 ghost use Rattle.std.specs.Prelude.{◌≡◌, ◌+◌, ◌%◌, ◌^◌};
 ghost use Rattle.block.specs.Wide.{value};
 ghost use Rattle.block.specs.Words.{unwords};

@@ -2,7 +2,7 @@
 pub use Rattle.block.proofs.Base.{Bool, List, [], ◌%◌, ◌&&◌, ◌*◌, ◌+◌, ◌-◌, ◌/◌, ◌<◌, ◌^◌, ◌∙◌, ◌∷◌, ◌≡◌, ◌≢◌, ◌≤◌, ◌⊎◌, add-one, add-zero}
 pub use Rattle.block.proofs.Base.{and-eq-true_iff, ap, ap₂, arith, digits_div, digits_lt, digits_mod, div-eq_of_lt, div-le_self}
 pub use Rattle.block.proofs.Base.{div-lt_iff_lt-mul, div-one, eqb, eqb-true, get_or, inl, inr, length, lit<, lt_of_le_of_lt, mod-eq_of_lt}
-pub use Rattle.block.proofs.Base.{mod-lt, mod-pow-add, mul_assoc, mul-div_cancel, mul-mod_left, mul-one, mul-zero, needs, one-add, one-mul}
+pub use Rattle.block.proofs.Base.{mod-lt, mod-pow-add, mul_assoc, mul-div_cancel, mul-mod_left, mul-one, mul-zero, rules, one-add, one-mul}
 pub use Rattle.block.proofs.Base.{pow-add, pow_pos, pow-suc, refl, replicate, shl_lt, shr-shr, split, suc, suc-add, sym, true, xor_block}
 pub use Rattle.block.proofs.Base.{xor_comm, xor_lt, xor_mod, xor_self, xor_shifted, xor_shr, xor_zero_l, xor_zero_r, zero, zero-add}
 pub use Rattle.block.proofs.Base.{zero-lt-suc, zero-mul, ℕ, ⊎_elim}

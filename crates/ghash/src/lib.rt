@@ -1,4 +1,7 @@
 // GCM's hash over bytes: `galois_hash` of libsm's `gcm.rs`, with the state by value and no padded copy.
+
+#![tactic(auto)]
+
 pub mod halves;
 mod interleaved;
 

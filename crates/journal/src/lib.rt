@@ -3,6 +3,9 @@
 //
 // A record is measured whole by the lengths that it states before anything else is asked of it: what is cut is 23, however long it says that
 // its parts are. The recorded length of an output is that of the recorded output.
+
+#![tactic(auto)]
+
 mod again;
 pub mod keys;
 pub mod records;

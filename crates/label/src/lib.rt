@@ -1,4 +1,7 @@
 // The label of a job and an edition.
+
+#![tactic(auto)]
+
 ghost use Rattle.std.specs.Prelude.{◌≡◌};
 ghost use Rattle.label.specs.Label.{label_of};
 

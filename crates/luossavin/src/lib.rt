@@ -1,6 +1,9 @@
 // The host boundary: what a host in C or Rust links, declared in `include/luossavin.h`. Every call ends with an answer, and
 // none has a `requires`: a host that breaks one could not be told. A struct of the crates below crosses as it is where its layout is
 // the header's. One that holds an enum or a bool cannot: a struct of numbers stands for it here.
+
+#![tactic(auto)]
+
 mod edition;
 mod halves;
 mod in_pieces;

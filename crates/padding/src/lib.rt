@@ -1,4 +1,7 @@
 // The padding of Cbc, in `cbc_encrypt` and `cbc_decrypt` of libsm's `cipher_mode.rs`: put behind a message, and decided over.
+
+#![tactic(auto)]
+
 ghost use Rattle.std.specs.Prelude.{◌≡◌, ◌-◌, ◌<◌, ◌≤◌, length, drop, replicate};
 ghost use Rattle.block.specs.Same.{same};
 ghost use Rattle.padding.specs.Padding.{padded, unpadded};

@@ -4,7 +4,7 @@ pub use Rattle.block.proofs.Base.{Bool, Fits, List, get_or-eq_default, [], ◌%�
 pub use Rattle.block.proofs.Base.{add-zero, ap, append_assoc, append-nil, ap₂, arith, cond, drop, drop-append-add, drop_at}
 pub use Rattle.block.proofs.Base.{drop_of_length-le, eq-eqb, eqb, eqb-true, false, get_or, get_or-take, le-ltb, length, length-append}
 pub use Rattle.block.proofs.Base.{length-drop, length-set, length-take-le, lit<, lt-ltb, ltb, ltb-false, ltb-true, min, mod-eq_of_lt}
-pub use Rattle.block.proofs.Base.{mod-lt, ne_eqb, needs, not, now, refl, replicate, set, sub-zero, suc, sym, take, take_all}
+pub use Rattle.block.proofs.Base.{mod-lt, ne_eqb, rules, not, refl, replicate, set, sub-zero, suc, sym, take, take_all}
 pub use Rattle.block.proofs.Base.{take-append-drop, take-append-le, take_at, true, w32, w64, w8, zero, ℕ}
 pub use Rattle.block.proofs.Convert.{bytes_of-bytes, bytes_of-number_of, length-bytes_of, number_of-bytes_of}
 pub use Rattle.block.proofs.Entries.{below_each}

@@ -10,8 +10,8 @@ pub use Rattle.block.proofs.Base.{Bool, List, [], ◌%◌, ◌&&◌, ◌*◌, �
 pub use Rattle.block.proofs.Base.{add-zero, ap, append_assoc, append-nil, arith, cond, div-le_self, drop, drop_at, drop-cons}
 pub use Rattle.block.proofs.Base.{drop_of_length-le, eq-eqb, eqb, eqb-false, eqb-true, false, false≢true, get_or, get_or-take, le-leb, le-ltb}
 pub use Rattle.block.proofs.Base.{leb, leb-true, length, length-append, length-drop, length-replicate, length-set, length-take}
-pub use Rattle.block.proofs.Base.{length-take-le, lit<, lt-leb, lt-ltb, ltb, ltb-false, min, mod-lt, mul-le-mul_right, ne_eqb, needs, not}
-pub use Rattle.block.proofs.Base.{not-false, not-true, now, refl, replicate, set, suc, sym, take, take-add, take_all, take-append-drop}
+pub use Rattle.block.proofs.Base.{length-take-le, lit<, lt-leb, lt-ltb, ltb, ltb-false, min, mod-lt, mul-le-mul_right, ne_eqb, rules, not}
+pub use Rattle.block.proofs.Base.{not-false, not-true, refl, replicate, set, suc, sym, take, take-add, take_all, take-append-drop}
 pub use Rattle.block.proofs.Base.{take-nil, take-suc-set, true, xor_comm, zero, zero-add, ℕ}
 pub use Rattle.block.proofs.Convert.{bytes_of-bytes, length-bytes_of}
 pub use Rattle.block.proofs.Entries.{below_each}

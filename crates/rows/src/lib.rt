@@ -1,6 +1,9 @@
 // Up to 512 blocks side by side. Each stands in two halves of 64 bits, in one row of one column of two arrays: eight columns of 64
 // rows. A column is a square matrix of bits, and transposing all columns makes lanes of the blocks: each word then has one and the
 // same bit of 64 blocks.
+
+#![tactic(auto)]
+
 ghost use Rattle.std.specs.Prelude.{◌≡◌, List, ◌++◌, ℕ, ◌+◌, ◌*◌, ◌^◌, ◌<◌, ◌≤◌, length, take, drop, get_or};
 ghost use Rattle.block.specs.BigEndian.{bytes_of};
 ghost use Rattle.block.specs.Blocks.{block_at};

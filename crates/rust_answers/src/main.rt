@@ -5,6 +5,9 @@
 // every byte past the length is as it was lent; and, of a 12-byte IV in Gcm, which libsm refuses and ours
 // takes, and of a padding that libsm takes by its last byte alone and ours refuses, where ours does just that.
 // README.md beside this crate's folders has the form of the file and what its parts are.
+
+#![tactic(auto)]
+
 mod list;
 
 ghost use Rattle.std.specs.Prelude.{◌<◌};

@@ -5,7 +5,7 @@ pub use Rattle.block.proofs.Base.{Bool, List, [], ◌&&◌, ◌++◌, ◌+◌, �
 pub use Rattle.block.proofs.Base.{append-nil, ap₂, arith, cond, drop, drop-append-add, drop-append-le, drop-cons, drop-drop, eq-eqb, eqb}
 pub use Rattle.block.proofs.Base.{eqb-false, eqb-true, false, get_or, le-leb, le-ltb, leb, leb-true, length, length-append, length-drop}
 pub use Rattle.block.proofs.Base.{length-set, length-take, length-take-le, lit<, lt-leb, lt-ltb, ltb, ltb-false, ltb-true, mod-eq_of_lt}
-pub use Rattle.block.proofs.Base.{ne_eqb, needs, not, not-false, not-true, now, refl, set, sub-zero, suc, suc-add, sym, take, take-add}
+pub use Rattle.block.proofs.Base.{ne_eqb, rules, not, not-false, not-true, refl, set, sub-zero, suc, suc-add, sym, take, take-add}
 pub use Rattle.block.proofs.Base.{take-append-drop, take-append-le, take-append_seam, take-length, take-nil, take-suc-set, true, zero}
 pub use Rattle.block.proofs.Base.{zero-add, ℕ, ⊎_elim}
 pub use Rattle.block.proofs.Convert.{bytes_of-number_of, length-bytes_of, number_of-bytes_of, number_of-lt}

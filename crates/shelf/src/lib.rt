@@ -1,5 +1,8 @@
 // A shelf: sealed files in one lent buffer, as records one after another. A job has one current record, or none; putting in a
 // new edition supersedes it, and collection throws out what is superseded.
+
+#![tactic(auto)]
+
 mod change;
 pub mod lookup;
 pub mod records;

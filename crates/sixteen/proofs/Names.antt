@@ -2,7 +2,7 @@
 pub use Rattle.block.proofs.Base.{List, [], ◌%◌, ◌*◌, ◌++◌, ◌+◌, ◌-◌, ◌/◌, ◌<◌, ◌^◌, ◌∙◌, ◌∷◌, ◌≡◌, ◌≢◌, ◌≤◌, add_comm, add-zero, ap}
 pub use Rattle.block.proofs.Base.{append_assoc, ap₂, arith, drop, drop-append-add, drop_at, drop-drop, get_or, get_or-set_other, get_or-set_same}
 pub use Rattle.block.proofs.Base.{high, leb, leb→le, length, length-append, length-drop, length-set, length-take-le, lit<, lt_of_lt_of_le}
-pub use Rattle.block.proofs.Base.{mod-lt, needs, now, pow_pos, refl, set, shr-shr, suc, sym, take, take-add, take_all, take_at, zero, ℕ}
+pub use Rattle.block.proofs.Base.{mod-lt, rules, pow_pos, refl, set, shr-shr, suc, sym, take, take-add, take_all, take_at, zero, ℕ}
 pub use Rattle.block.proofs.Base.{⊎_elim}
 pub use Rattle.block.proofs.Cat.{cat-next, cat-same, length-block_at, length-cat}
 pub use Rattle.block.proofs.Entries.{below-drop, below_each}

@@ -1,5 +1,8 @@
 // SM4 on up to 64 blocks side by side, in groups of sixteen: for messages, and rests, that are too short for the batches of `sliced`. Neither
 // an index nor a branch depends on a block or a key.
+
+#![tactic(auto)]
+
 mod rounds;
 
 ghost use Rattle.std.specs.Prelude.{◌≡◌, List, ◌++◌, ℕ, ◌+◌, ◌*◌, ◌/◌, ◌%◌, ◌<◌, ◌≤◌, length, take, drop};

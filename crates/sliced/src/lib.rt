@@ -3,6 +3,9 @@
 //
 // The gates of the rounds work on the first n columns alone. n is a parameter all the way down, since a loop whose count the back end knows
 // is not vectorized here.
+
+#![tactic(auto)]
+
 pub mod counters;
 
 ghost use Rattle.std.specs.Prelude.{◌≡◌, List, [], ◌∷◌, ℕ, ◌+◌, ◌*◌, ◌%◌, ◌^◌, ◌<◌, ◌≤◌, length, get_or};

@@ -1,5 +1,8 @@
 // The modes of libsm's `cipher_mode.rs` that xor a message with the cipher of a state: `cfb_encrypt`, `cfb_decrypt`,
 // `ofb_encrypt`, `ctr_encrypt`, and `galois_ctr` of Gcm. They differ in the next state alone, so one loop serves all.
+
+#![tactic(auto)]
+
 mod batches;
 pub mod few;
 

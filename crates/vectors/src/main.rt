@@ -1,5 +1,8 @@
 // Runs the published vectors of the file that its argument names. A vector is the same where ours, both
 // ways where there are two, and an independent SM4 give the published result.
+
+#![tactic(auto)]
+
 mod fields;
 mod independent;
 mod ours;

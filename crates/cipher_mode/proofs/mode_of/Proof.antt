@@ -6,6 +6,6 @@ use Rattle.cipher_mode.proofs.mode_of.Tie as tie
 
 pub mode_of_spec : {M : Type 1} → statement M
 unfolding mode_of
-mode_of_spec = tie.close (tie.spec (λ c. rw c.match.keys1) (λ c. rw c.match.keys2) (λ c. rw c.match.keys3)
-    (λ c. rw c.match.keys4)
+mode_of_spec = tie.close (tie.spec (λ c. rw c.in_default.keys1) (λ c. rw c.in_default.keys2) (λ c. rw c.in_default.keys3)
+    (λ c. rw c.in_default.keys4)
     (λ c. let n = c.before.args.mode in let above : n ≡ suc (suc (suc (suc (n - 4)))) = omega arith in rw above))

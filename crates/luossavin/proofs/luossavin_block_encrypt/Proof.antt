@@ -1,7 +1,7 @@
 -- `luossavin::luossavin_block_encrypt` meets its contract: it reports the call on the host's record.
 use Rattle.luossavin.specs.Host.{host_block_call}
 use Rattle.luossavin.proofs.Steps.{told}
-use Rattle.block.proofs.Base.{needs}
+use Rattle.block.proofs.Base.{rules}
 use Rattle.luossavin.proofs.luossavin_block_encrypt.Statement.{statement}
 use Rattle.luossavin.proofs.luossavin_block_encrypt.Tie as tie
 
@@ -9,8 +9,8 @@ returns : tie.Need-returns
 unfolding host_block_call
 returns c =
     let at_call = c.before.before.before in
-    told c.report.ensures (rw (← at_call.before.before.cipher-of.ensures) at_call.call.ensures)
+    told c.report.ensures (rw (← at_call.before.before.cipher_of.ensures) at_call.call.ensures)
 
 pub luossavin_block_encrypt_spec : {M : Type 1} → statement M
 luossavin_block_encrypt_spec =
-    tie.close (tie.spec (λ c κs. search needs) (λ c κs. search needs) (λ c κs. search needs) (λ c. search needs) returns)
+    tie.close (tie.spec (λ c. search rules) (λ c. search rules) (λ c. search rules) (λ c. search rules) returns)

@@ -4,10 +4,10 @@ use Rattle.std.proofs.Common.{◌-◌, length, rules}
 use Rattle.rust_answers.proofs.untouched.Statement.{statement}
 use Rattle.rust_answers.proofs.untouched.Tie as tie
 
-abbrev invariant_loop : tie.invariant_loop
+abbrev invariant_loop : tie.invariant-loop-i
 invariant_loop out at i₀ i = Unit {0}
 
-abbrev decreases_loop : tie.decreases_loop
+abbrev decreases_loop : tie.decreases-loop-i
 decreases_loop out at i₀ i = length out - i
 
 pub untouched_spec : {M : Type 1} → statement M

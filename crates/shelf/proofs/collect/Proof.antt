@@ -1,5 +1,5 @@
 -- `shelf::collect` meets its contract: refused, or what `keep` leaves.
-use Rattle.shelf.proofs.Names.{◌∙◌, collect_call, needs, sym}
+use Rattle.shelf.proofs.Names.{◌∙◌, collect_call, rules, sym}
 use Rattle.shelf.proofs.Sound.{in_order}
 use Rattle.shelf.proofs.collect.Statement.{statement}
 use Rattle.shelf.proofs.collect.Tie as tie
@@ -7,9 +7,9 @@ use Rattle.shelf.proofs.collect.Tie as tie
 pub collect_spec : {M : Type 1} → statement M
 unfolding collect_call
 collect_spec =
-    tie.close (tie.spec (λ c κs. search needs) (λ c. search needs) (λ c. rw (sym c.before.bad.ensures ∙ c.if1.true))
-    (λ c κs. (in_order _ _ (sym c.before.before.bad.ensures ∙ c.before.if1.false)).within) (λ c. search needs)
+    tie.close (tie.spec (λ c. search rules) (λ c. search rules) (λ c. rw (sym c.before.bad.ensures ∙ c.if-bad.true))
+    (λ c. (in_order _ _ (sym c.before.before.bad.ensures ∙ c.before.if-bad.false)).within) (λ c. search rules)
     (λ c.
     let k = c.before.before in
     let e = k.before.before in
-    rw (sym e.before.bad.ensures ∙ e.if1.false, k.keep.ensures.0, k.keep.ensures.1)))
+    rw (sym e.before.bad.ensures ∙ e.if-bad.false, k.keep-kept.ensures.0, k.keep-kept.ensures.1)))

@@ -1,6 +1,6 @@
 -- `shelf::put` meets its contract: each refusal is the definition's, and where none is left, room is made and the record written there.
 use Rattle.shelf.proofs.Names.{InOrder, Record, ◌+◌, ◌∙◌, ◌≡◌, ◌≤◌, ap, arith, bad_shelf, collected, false, le-ltb, length}
-use Rattle.shelf.proofs.Names.{length_tailed, lt-ltb, ltb, needs, new_record, not_higher, now, put_call, put_in, records, refl, stored}
+use Rattle.shelf.proofs.Names.{length_tailed, lt-ltb, ltb, rules, new_record, not_higher, put_call, put_in, records, refl, stored}
 use Rattle.shelf.proofs.Names.{sym, take}
 use Rattle.shelf.proofs.Sound.{in_order}
 use Rattle.shelf.proofs.Walks.{higher-told}
@@ -8,50 +8,50 @@ use Rattle.shelf.proofs.Putting.{length-current, made_used, made_room, made_byte
 use Rattle.shelf.proofs.put.Statement.{statement}
 use Rattle.shelf.proofs.put.Tie as tie
 
-module _ (x : tie.Else1) where
+module _ (x : tie.Else-bad) where
   abbrev S : tie.Start
   S = x.before.before.before.before.before
 
-  good : bad_shelf (now S.args.shelf) S.args.used ≡ false
-  good = sym x.before.bad.ensures ∙ x.if1.left
+  good : bad_shelf (S.args.shelf.now) S.args.used ≡ false
+  good = sym x.before.bad.ensures ∙ x.if-bad.false
 
-  order : InOrder (now S.args.shelf) S.args.used
+  order : InOrder (S.args.shelf.now) S.args.used
   order = in_order _ _ good
 
   abbrev new : Record
-  new = new_record S.args.job S.args.edition (now S.args.sealed)
+  new = new_record S.args.job S.args.edition (S.args.sealed.now)
 
-module _ (x : tie.Else2) where
-  abbrev first : tie.Else1
+module _ (x : tie.Else-told-gt0) where
+  abbrev first : tie.Else-bad
   first = x.before.before.before.before
 
-  higher : let a = (S first).args in not_higher a.job a.edition (records (take a.used (now a.shelf))) ≡ false
-  higher = higher-told x.before.before.survey.ensures ∙ le-ltb 0 _ x.if2.left
+  higher : let a = (S first).args in not_higher a.job a.edition (records (take a.used (a.shelf-1.now))) ≡ false
+  higher = higher-told x.before.before.survey-told.ensures ∙ le-ltb 0 _ x.if-told-gt0.false
 
 -- whether there is no room, for all that is current after the put
 no_room : (x : tie.After-short)
     → let a = (S (first x.before)).args in
     x.short.result
-    ≡ ltb (length (now a.shelf)) (length (stored (collected (put_in (now a.shelf) a.used a.job a.edition (now a.sealed)))))
+    ≡ ltb (length (a.shelf-1.now)) (length (stored (collected (put_in (a.shelf-1.now) a.used a.job a.edition (a.sealed.now)))))
 no_room x =
     let e = first x.before in
-    let kept = x.before.before.before.survey.ensures.kept in
-    x.short.ensures ∙ ap (ltb (length (now (S e).args.shelf))) (length-current _ _ (order e) (new e) refl kept)
+    let kept = x.before.before.before.survey-told.ensures.kept in
+    x.short.ensures ∙ ap (ltb (length ((S e).args.shelf.now))) (length-current _ _ (order e) (new e) refl kept)
 
-module _ (x : tie.After-make-room) where
-  abbrev third : tie.Else3
+module _ (x : tie.After-make_room-at) where
+  abbrev third : tie.Else-short
   third = x.before.before
 
-  abbrev e : tie.Else1
+  abbrev e : tie.Else-bad
   e = first third.before.before
 
   -- the new record finds room
-  room : (x.make-room.result + (12 + length (now (S e).args.sealed)) ≤ length x.make-room.last.0)
-      × (length x.make-room.last.0 ≡ length (now (S e).args.shelf))
-      × (length (now (S e).args.shelf) ≤ 65536)
-  room = made_room _ _ (order e) (new e) refl x.make-room.ensures (sym (no_room third.before) ∙ third.if3.left)
+  room : (x.make_room-at.result + (12 + length ((S e).args.sealed.now)) ≤ length x.make_room-at.new.0)
+      × (length x.make_room-at.new.0 ≡ length ((S e).args.shelf.now))
+      × (length ((S e).args.shelf.now) ≤ 65536)
+  room = made_room _ _ (order e) (new e) refl x.make_room-at.ensures (sym (no_room third.before) ∙ third.if-short.false)
 
-returns_4 : tie.Need-returns-4
+returns_4 : tie.Need-returns
 unfolding put_call
 returns_4 c =
     let w = c.before.before in
@@ -59,26 +59,26 @@ returns_4 c =
     rw (
       good (e m),
       higher (third m).before.before,
-      sym (no_room (third m).before) ∙ (third m).if3.false,
-      made_used _ _ (order (e m)) (new (e m)) refl m.make-room.ensures,
-      made_bytes _ _ (order (e m)) (new (e m)) refl m.make-room.ensures w.write.ensures,
+      sym (no_room (third m).before) ∙ (third m).if-short.false,
+      made_used _ _ (order (e m)) (new (e m)) refl m.make_room-at.ensures,
+      made_bytes _ _ (order (e m)) (new (e m)) refl m.make_room-at.ensures w.write.ensures,
     )
 
 pub put_spec : {M : Type 1} → statement M
 put_spec =
-    tie.close (tie.spec (λ c κs. search needs) (λ c. search needs)
-    (λ c. unfold put_call in rw (sym c.before.bad.ensures ∙ c.if1.true)) (λ c κs. (order c.before).within) (λ c. search needs)
+    tie.close (tie.spec (λ c. search rules) (λ c. search rules)
+    (λ c. unfold put_call in rw (sym c.before.bad.ensures ∙ c.if-bad.true)) (λ c. (order c.before).within) (λ c. search rules)
     (λ c.
     let v = c.before.before in
-    unfold put_call in rw (good v.before.before, higher-told v.survey.ensures ∙ lt-ltb 0 _ c.if2.true))
-    (λ c κs. (order (first c)).size) (λ c. search needs)
+    unfold put_call in rw (good v.before.before, higher-told v.survey-told.ensures ∙ lt-ltb 0 _ c.if-told-gt0.true))
+    (λ c. (order (first c)).size) (λ c. search rules)
     (λ c.
     let s = c.before in
-    unfold put_call in rw (good (first s.before), higher s.before, sym (no_room s) ∙ c.if3.true))
-    (λ c κs. order (first c.before.before.before)) (λ c. omega (arith, room c.before.before))
-    (λ c. omega (arith, room c.before.before)) (λ c. search needs)
-    (λ c κs.
+    unfold put_call in rw (good (first s.before), higher s.before, sym (no_room s) ∙ c.if-short.true))
+    (λ c. order (first c.before.before.before)) (λ c. omega (arith, room c.before.before))
+    (λ c. omega (arith, room c.before.before)) (λ c. search rules)
+    (λ c.
     let x = c.before.before.before in
-    omega (arith, room x, length_tailed x.make-room.new.0 x.make-room.result))
+    omega (arith, room x, length_tailed x.make_room-at.new.0 x.make_room-at.result))
     (λ c. omega (arith, room c.before.before.before.before.before.before))
-    (λ c. omega (arith, room c.before.before.before.before.before.before)) (λ c. search needs) returns_4)
+    (λ c. omega (arith, room c.before.before.before.before.before.before)) (λ c. search rules) returns_4)

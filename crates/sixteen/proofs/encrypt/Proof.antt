@@ -1,19 +1,19 @@
 -- `sixteen::encrypt` meets its contract: the words that are loaded are those of the blocks, those that are stored their ciphers.
-use Rattle.sixteen.proofs.Names.{List, ◌∙◌, ap, arith, cat, cat-same, encrypt_block, encrypt_words, lt_of_lt_of_le, needs, now, over}
+use Rattle.sixteen.proofs.Names.{List, ◌∙◌, ap, arith, cat, cat-same, encrypt_block, encrypt_words, lt_of_lt_of_le, rules, over}
 use Rattle.sixteen.proofs.Names.{refl, unwords}
 use Rattle.sixteen.proofs.encrypt.Statement.{statement}
 use Rattle.sixteen.proofs.encrypt.Tie as tie
 
 pub encrypt_spec : {M : Type 1} → statement M
 encrypt_spec = tie.close (tie.spec
-    (λ c. unfold cat in rw c.if1.true refl) (λ c κs. search needs) (λ c κs. search needs) (λ c κs. search needs) (λ c κs. omega arith)
-    (λ c κs. search needs) (λ c. search needs)
+    (λ c. unfold cat in rw c.if-m-eq0.true refl) (λ c. search rules) (λ c. search rules) (λ c. search rules) (λ c. omega arith)
+    (λ c. search rules) (λ c. search rules)
     (λ c. unfold encrypt_block in
     let at_store = c.before.before in
     let at-rounds = at_store.before.before.before in
     let at-fours = at-rounds.before.before.before in
     let at_load = at-fours.before in
     let a = at_load.before.before.before.before.before.args in
-    at_store.store.ensures ∙ ap (λ (l : List _). over l (now a.out)) (cat-same a.m _ _
-    (λ j h. ap unwords (at-rounds.all-rounds.ensures.0 j (lt_of_lt_of_le h at-fours.whole-fours.ensures.0)
+    at_store.store.ensures ∙ ap (λ (l : List _). over l (a.out-1.now)) (cat-same a.m _ _
+    (λ j h. ap unwords (at-rounds.all_rounds.ensures.0 j (lt_of_lt_of_le h at-fours.whole_fours-n.ensures.0)
     ∙ ap (encrypt_words a.rk) (at_load.load.ensures.0 j h))))))

@@ -1,16 +1,16 @@
 -- `sliced::encrypt` meets its contract: the rows stand in lanes (`rows_in_lanes`), and the rounds work on these.
-use Rattle.sliced.proofs.Names.{arith, needs}
+use Rattle.sliced.proofs.Names.{arith, rules}
 use Rattle.sliced.proofs.Halves.{rows_in_lanes}
 use Rattle.sliced.proofs.encrypt.Statement.{statement}
 use Rattle.sliced.proofs.encrypt.Tie as tie
 
 pub encrypt_spec : {M : Type 1} → statement M
 encrypt_spec = tie.close (tie.spec
-    (λ c κs. search needs) (λ c κs. search needs) (λ c κs. search needs)
+    (λ c. search rules) (λ c. search rules) (λ c. search rules)
     (λ c.
-    let R = c.rounds-to-rows in
+    let R = c.rounds_to_rows in
     let at_second = c.before.before.before.before.before.before.before in
-    let F = at_second.enter2 in
+    let F = at_second.enter-2 in
     let at_first = at_second.before.before.before.before in
     let E = at_first.enter in
     let a = at_first.before.before.before.before.args in (

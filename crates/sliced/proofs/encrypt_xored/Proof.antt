@@ -1,13 +1,13 @@
 -- `sliced::encrypt_xored` meets its contract: the rows that are loaded are the words of the blocks, those that are stored their ciphers.
-use Rattle.sliced.proofs.Names.{arith, encrypt_block, needs}
+use Rattle.sliced.proofs.Names.{arith, encrypt_block, rules}
 use Rattle.sliced.proofs.encrypt_xored.Statement.{statement}
 use Rattle.sliced.proofs.encrypt_xored.Tie as tie
 
 pub encrypt_xored_spec : {M : Type 1} → statement M
 encrypt_xored_spec = tie.close (tie.spec
-    (λ c κs. search needs) (λ c κs. search needs) (λ c κs. search needs) (λ c κs. search needs) (λ c. search needs)
+    (λ c. search rules) (λ c. search rules) (λ c. search rules) (λ c. search rules) (λ c. search rules)
     (λ c. unfold encrypt_block in
     let at_store = c.before.before in
     let at-encrypt = at_store.before.before.before.before in
     let at_load = at-encrypt.before.before.before.before in
-    at_store.store-xored.ensures _ (at-encrypt.encrypt.ensures.0 _ _ (omega arith) at_load.load.ensures)))
+    at_store.store_xored.ensures _ (at-encrypt.encrypt.ensures.0 _ _ (omega arith) at_load.load.ensures)))

@@ -1,14 +1,14 @@
 -- `sliced::four` meets its contract: each round takes the planes that the rounds before it left, and four rounds in each lane are put
 -- together by `four-done`.
-use Rattle.sliced.proofs.Names.{arith, needs}
+use Rattle.sliced.proofs.Names.{arith, rules}
 use Rattle.sliced.proofs.Mixing.{four-done}
 use Rattle.sliced.proofs.four.Statement.{statement}
 use Rattle.sliced.proofs.four.Tie as tie
 
 pub four_spec : {M : Type 1} → statement M
 four_spec = tie.close (tie.spec
-    (λ c κs. search needs) (λ c κs. search needs) (λ c κs. search needs)
-    (λ c κs.
+    (λ c. search rules) (λ c. search rules) (λ c. search rules)
+    (λ c.
     let at_second = c.before.before.before.before.before.before.before.before.before.before.before in
     let P = at_second.before.before.before.before.before.before.before.before.before.before.before.before.requires.1 in
     omega (arith, P))
@@ -18,9 +18,9 @@ four_spec = tie.close (tie.spec
     let at_first = at_second.before.before.before.before.before.before in
     let a = at_first.before.before.before.before.before.before.args in
     let r = at_first.round in
-    let q = at_second.round2 in
-    let t = at-third.round3 in
-    let u = c.round4 in (
+    let q = at_second.round-2 in
+    let t = at-third.round-3 in
+    let u = c.round-4 in (
       λ e h g.
           four-done _ _ _ _ _ _ _ _ a.k a.l a.m a.o e
           (r.ensures.0 e h g) (q.ensures.0 e h g) (t.ensures.0 e h g) (u.ensures.0 e h g),

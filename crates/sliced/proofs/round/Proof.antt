@@ -1,6 +1,6 @@
 -- `sliced::round` meets its contract. The loop's invariant: s holds what the S-boxes make of the first q bytes. Once it holds all four, it
 -- holds them twice (`double`), and `mix` adds L of them to a, which is the round (`round-done`).
-use Rattle.sliced.proofs.Names.{Held, ◌*◌, ◌-◌, ◌≡◌, ◌≤◌, arith, keyed, length, needs, subbed, tau-lt}
+use Rattle.sliced.proofs.Names.{Held, ◌*◌, ◌-◌, ◌≡◌, ◌≤◌, arith, keyed, length, rules, subbed, tau-lt}
 use Rattle.sliced.proofs.Mixing.{round-done}
 use Rattle.sliced.proofs.round.Statement.{statement}
 use Rattle.sliced.proofs.round.Tie as tie
@@ -8,14 +8,14 @@ use Rattle.sliced.proofs.round.Tie as tie
 pub round_spec : {M : Type 1} → statement M
 round_spec = tie.close (tie.spec
     (λ a b c d s₀ k n q₀ s q. (q ≤ 4) × (length s ≡ 512) × Held (subbed b c d k) n (64 * q) s) (λ a b c d s₀ k n q₀ s q. 4 - q)
-    (λ c. search needs) (λ c κs. search needs) (λ c. search needs) (λ c. search needs)
+    (λ c. search rules) (λ c. search rules) (λ c. search rules) (λ c. search rules)
     (λ c.
-    let r = c.sub-byte.ensures in
+    let r = c.sub_byte.ensures in
     (omega arith, r.1, λ p k hp. r.0 p k (omega arith)))
-    (λ c κs. search needs) (λ c κs. search needs)
+    (λ c. search rules) (λ c. search rules)
     (λ c.
     let D = c.before.before.before.double in
-    let l = c.before.before.before.before.before.before.loop in
+    let l = c.before.before.before.before.before.before.loop-q in
     let a = c.before.before.before.before.before.before.before.args in
     let f = subbed a.b.now a.c.now a.d.now a.k in
     let h : Held f a.n 256 l.s = λ p k hp. l.invariant.2 p k (omega arith) in

@@ -1,19 +1,19 @@
 -- `sliced::rounds_to_rows` meets its contract: the rounds work in every lane, and the lanes go back into halves, the last word first
 -- (`rows_encrypted`).
-use Rattle.sliced.proofs.Names.{needs}
+use Rattle.sliced.proofs.Names.{rules}
 use Rattle.sliced.proofs.Halves.{rows_encrypted}
 use Rattle.sliced.proofs.rounds_to_rows.Statement.{statement}
 use Rattle.sliced.proofs.rounds_to_rows.Tie as tie
 
 pub rounds_to_rows_spec : {M : Type 1} → statement M
 rounds_to_rows_spec = tie.close (tie.spec
-    (λ c κs. search needs) (λ c κs. search needs) (λ c κs. search needs)
+    (λ c. search rules) (λ c. search rules) (λ c. search rules)
     (λ c.
-    let B = c.leave2 in
+    let B = c.leave-2 in
     let at-leave = c.before.before.before.before in
     let A = at-leave.leave in
     let at-rounds = at-leave.before.before.before.before in
-    let R = at-rounds.all-rounds in
+    let R = at-rounds.all_rounds in
     let S = at-rounds.before.before.before.before.before.before in
     let a = S.args in (
       rows_encrypted a.rk _ _ a.x0.now a.x1.now a.x2.now a.x3.now _ _ _ _ a.n S.requires.0.0

@@ -1,5 +1,5 @@
 -- `carryless::many::join_each` meets its contract. The loop's invariant: the first g numbers are there.
-use Rattle.block.proofs.Base.{◌-◌, ◌≤◌, ◌≡◌, arith, needs, get_or, length}
+use Rattle.block.proofs.Base.{◌-◌, ◌≤◌, ◌≡◌, arith, rules, get_or, length}
 use Rattle.lanes.proofs.Needs.{next8}
 use Rattle.carryless.specs.Carryless.{joining}
 use Rattle.carryless.specs.Lanes.{Both}
@@ -11,10 +11,10 @@ pub join_each_spec : {M : Type 1} → statement M
 join_each_spec = tie.close (next8 (tie.spec
     (λ p q r n high₀ low₀ g₀ high low g.
     (g ≤ n) × (length high ≡ 16) × (length low ≡ 16) × Both (λ i. joining (get_or p i 0) (get_or q i 0) (get_or r i 0)) g high low)
-    (λ p q r n high₀ low₀ g₀ high low g. n - g) (λ c. search needs)) (omega arith) (λ c. search needs) (λ c. search needs)
-    (λ c. search needs) (λ c. search needs) (λ c. search needs)
+    (λ p q r n high₀ low₀ g₀ high low g. n - g) (λ c. search rules)) (omega arith) (λ c. search rules) (λ c. search rules)
+    (λ c. search rules) (λ c. search rules) (λ c. search rules)
     (λ c.
-    let l = c.before.before.before.before.before.loop in
-    let next = both-next l.g _ _ l.high l.low (omega arith) (omega arith) _ c.joined.ensures l.invariant.3 in
-    (omega arith, search needs, search needs, next))
-    (λ c. let l = c.before.loop in (λ j h. l.invariant.3 j (omega arith), l.invariant.1, l.invariant.2)))
+    let l = c.before.before.before.before.before.loop-g in
+    let next = both-next l.g _ _ l.high l.low (omega arith) (omega arith) _ c.joined-z.ensures l.invariant.3 in
+    (omega arith, search rules, search rules, next))
+    (λ c. let l = c.before.loop-g in (λ j h. l.invariant.3 j (omega arith), l.invariant.1, l.invariant.2)))

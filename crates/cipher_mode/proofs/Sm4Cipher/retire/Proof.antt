@@ -1,5 +1,5 @@
 -- `cipher_mode::Sm4Cipher::retire` meets its contract: what is no key comes back, and of a key the definition gives the record.
-use Rattle.block.proofs.Base.{◌≡◌, refl, ⊎_elim, [], ◌∷◌, arith, needs}
+use Rattle.block.proofs.Base.{◌≡◌, refl, ⊎_elim, [], ◌∷◌, arith, rules}
 use denote.Enum.Declared.{tag_of}
 use types.Run.{OneOf}
 use Rattle.cipher_mode.specs.declared.KeyAnswer.{KeyAnswer}
@@ -17,4 +17,4 @@ no_key c WrongNumber told = refl
 
 pub retire_spec : {M : Type 1} → statement M
 unfolding retire
-retire_spec = tie.close (tie.spec (λ c. search needs) (λ c. rw (no_key _ _ c.match.keys2)) (λ c. rw c.before.enum_told.given.1))
+retire_spec = tie.close (tie.spec (λ c. search rules) (λ c. rw (no_key _ _ c.in_default.keys2)) (λ c. rw c.before.enum_told-1.given.1))

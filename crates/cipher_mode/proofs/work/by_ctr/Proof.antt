@@ -1,6 +1,6 @@
 -- `cipher_mode::work::by_ctr` meets its contract: it leaves what the stream leaves, and tells of its counter what the formula says of the
 -- IV, whose words spell it.
-use Rattle.block.proofs.Base.{◌<◌, ℕ, refl, arith, needs, now, get_or}
+use Rattle.block.proofs.Base.{◌<◌, ℕ, refl, arith, rules, get_or}
 use Rattle.cipher_mode.proofs.Ends.{spelled, told_of}
 use Rattle.cipher_mode.proofs.work.by_ctr.Statement.{statement}
 use Rattle.cipher_mode.proofs.work.by_ctr.Tie as tie
@@ -11,10 +11,10 @@ returns c =
     let at-stream = at_split.before.before.before in
     let at-iv = at-stream.before.before.before.before in
     let S = at-iv.before.before in
-    let iv = now S.args.iv in
-    let small : (i : ℕ) → get_or iv i 0 < 256 = λ i. omega (arith, at-iv.shared-slice-known2.given i) in
-    let is_iv = spelled iv _ S.requires.1.0 small at_split.split-block.ensures in
-    told_of _ _ _ _ _ (rw is_iv at c.ctr-came-round.ensures) at-stream.by-stream.ensures refl
+    let iv = S.args.iv.now in
+    let small : (i : ℕ) → get_or iv i 0 < 256 = λ i. omega (arith, at-iv.shared_slice_known-2-1.given i) in
+    let is_iv = spelled iv _ S.requires.1.0 small at_split.split_block.ensures in
+    told_of _ _ _ _ _ (rw is_iv at c.ctr_came_round.ensures) at-stream.by_stream-ending.ensures refl
 
 pub by_ctr_spec : {M : Type 1} → statement M
-by_ctr_spec = tie.close (tie.spec (λ c κs. search needs) (λ c κs. search needs) (λ c κs. search needs) (λ c. search needs) returns)
+by_ctr_spec = tie.close (tie.spec (λ c. search rules) (λ c. search rules) (λ c. search rules) (λ c. search rules) returns)

@@ -1,5 +1,5 @@
 -- `cipher_mode::work::by_stream` meets its contract: the IV's words spell it, and the chain is as long as the data.
-use Rattle.block.proofs.Base.{◌<◌, ℕ, arith, needs, now, get_or}
+use Rattle.block.proofs.Base.{◌<◌, ℕ, arith, rules, get_or}
 use Rattle.walk.specs.Walk.{chain}
 use Rattle.stream.specs.Stream.{stream_mode}
 use Rattle.stream.proofs.RoundTrip.{length-stream}
@@ -13,11 +13,11 @@ returns c =
     let at-iv = at_split.before.before.before in
     let S = at-iv.before.before in
     let a = S.args in
-    let iv = now a.iv in
-    let small : (i : ℕ) → get_or iv i 0 < 256 = λ i. omega (arith, at-iv.shared-slice-known2.given i) in
-    let is_iv = spelled iv _ S.requires.1.0 small at_split.split-block.ensures in
-    reached (chain (stream_mode a.kind a.rk) iv (now a.«data»)) (now a.out) _ _ (length-stream a.kind a.rk iv _)
+    let iv = a.iv.now in
+    let small : (i : ℕ) → get_or iv i 0 < 256 = λ i. omega (arith, at-iv.shared_slice_known-2-1.given i) in
+    let is_iv = spelled iv _ S.requires.1.0 small at_split.split_block.ensures in
+    reached (chain (stream_mode a.kind a.rk) iv (a.«data».now)) (a.out-1.now) _ _ (length-stream a.kind a.rk iv _)
     (rw is_iv at c.before.before.stream.ensures.1.1)
 
 pub by_stream_spec : {M : Type 1} → statement M
-by_stream_spec = tie.close (tie.spec (λ c κs. search needs) (λ c κs. search needs) (λ c. search needs) returns)
+by_stream_spec = tie.close (tie.spec (λ c. search rules) (λ c. search rules) (λ c. search rules) returns)

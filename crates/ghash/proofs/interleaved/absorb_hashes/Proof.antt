@@ -1,6 +1,6 @@
 -- `ghash::interleaved::absorb_hashes` meets its contract. The loop's invariant: the first k hashes are taken in, and m is the parts of H. A
 -- turn takes in the one that comes next (`absorbed_both`).
-use Rattle.ghash.proofs.Names.{Absorbed, PartsOf, ◌-◌, ◌≡◌, ◌≤◌, arith, hash_from, lane, needs, up_to}
+use Rattle.ghash.proofs.Names.{Absorbed, PartsOf, ◌-◌, ◌≡◌, ◌≤◌, arith, hash_from, lane, rules, up_to}
 use Rattle.ghash.proofs.Absorbing.{parts_same, absorbed_both}
 use Rattle.ghash.proofs.Sets.{up_to-next}
 use Rattle.ghash.proofs.interleaved.absorb_hashes.Statement.{statement}
@@ -11,9 +11,9 @@ absorb_hashes_spec =
     tie.close
     (tie.spec
     (λ n high low m state₀ k₀ state k. (k ≤ n) × Absorbed state₀ (up_to k (lane high low)) state × PartsOf state₀.h m)
-    (λ n high low m state₀ k₀ state k. n - k) (λ c κs. search needs) (λ c. unfold up_to hash_from in search needs) (λ c. search needs)
-    (λ c. search needs) (λ c. search needs) (λ c. search needs) (λ c κs. search (needs, parts_same)) (λ c. search needs) (λ c. search needs)
+    (λ n high low m state₀ k₀ state k. n - k) (λ c. search rules) (λ c. unfold up_to hash_from in search rules) (λ c. search rules)
+    (λ c. search rules) (λ c. search rules) (λ c. search rules) (λ c. search (rules, parts_same)) (λ c. search rules) (λ c. search rules)
     (λ c.
-    let turn = c.before.before.before.before.before.loop in
-    (omega arith, rw (← up_to-next) (absorbed_both _ _ _ _ _ turn.invariant.1 c.step.ensures), turn.invariant.2))
-    (λ c. let e : c.before.loop.k ≡ c.before.before.before.args.n = omega arith in rw e at c.before.loop.invariant.1))
+    let turn = c.before.before.before.before.before.loop-k in
+    (omega arith, rw (← up_to-next) (absorbed_both _ _ _ _ _ turn.invariant.1 c.step-state.ensures), turn.invariant.2))
+    (λ c. let e : c.before.loop-k.k ≡ c.before.before.before.args.n = omega arith in rw e at c.before.loop-k.invariant.1))

@@ -2,7 +2,7 @@
 -- keys are to come.
 use Rattle.journal.proofs.Names.{Keys, List, Sm4Cipher, ◌+◌, ◌-◌, ◌∙◌, ◌∷◌, ◌≡◌, ◌≤◌, ap, arith, by_test, drop, drop_of_length-le}
 use Rattle.journal.proofs.Names.{eq-eqb, has_number, key_number, keys_in, le-ltb, length, length-drop, length-map, lt-ltb, ltb}
-use Rattle.journal.proofs.Names.{ltb-false, ltb-true, ne_eqb, needs, place_of, refl, sym, ℕ}
+use Rattle.journal.proofs.Names.{ltb-false, ltb-true, ne_eqb, rules, place_of, refl, sym, ℕ}
 use Rattle.journal.proofs.KeyTurns.{count-keys}
 use Rattle.journal.proofs.keys.find_from.Statement.{statement}
 use Rattle.journal.proofs.keys.find_from.Tie as tie
@@ -34,34 +34,34 @@ told keys from n r l h e =
           (λ t. le-ltb r keys.count (omega (arith, ltb-false p m t)) ∙ sym t),
     )
 
-abbrev invariant_loop : tie.invariant_loop
+abbrev invariant_loop : tie.invariant-loop-i
 invariant_loop keys from number i₀ i =
     (length (keys_in keys) ≡ keys.count)
     × (i ≤ keys.count)
     × (i + place_of number (drop i (keys_in keys)) ≡ from + place_of number (drop from (keys_in keys)))
 
-abbrev decreases_loop : tie.decreases_loop
+abbrev decreases_loop : tie.decreases-loop-i
 decreases_loop keys from number i₀ i = keys.count - i
 
 pub find_from_spec : {M : Type 1} → statement M
 find_from_spec =
     tie.close (tie.spec invariant_loop decreases_loop
     (λ c. (count-keys _ (sym (length-map c.args.keys.keys _) ∙ c.well-formed.0.1.1.1.0.1.0.1) c.requires.1, c.requires.0, refl))
-    (λ c κs. (omega arith, c.before.before.before.requires.1)) (λ c κs. search needs)
+    (λ c. (omega arith, c.before.before.before.requires.1)) (λ c. search rules)
     (λ c.
     let x = c.before in
     let l = x.before.before.before.before in
     let a = l.before.args in
-    let z = here a.number _ _ _ x.before.at.ensures.1 (sym x.number_of_lem.ensures ∙ c.if2.true) in
-    told a.keys a.from a.number _ l.loop.invariant.0 l.before.requires.0 (omega arith))
+    let z = here a.number _ _ _ x.before.at.ensures.1 (sym x.number_of_lem.ensures ∙ c.if-number_of-number.true) in
+    told a.keys a.from a.number _ l.loop-i.invariant.0 l.before.requires.0 (omega arith))
     (λ c. omega arith) (λ c. omega arith)
     (λ c.
     let x = c.before in
     let l = x.before.before.before.before in
-    let z = behind l.before.args.number _ _ _ x.before.at.ensures.1 (λ e. c.if2.false (x.number_of_lem.ensures ∙ e)) in
-    (l.loop.invariant.0, omega arith, omega arith))
+    let z = behind l.before.args.number _ _ _ x.before.at.ensures.1 (λ e. c.if-number_of-number.false (x.number_of_lem.ensures ∙ e)) in
+    (l.loop-i.invariant.0, omega arith, omega arith))
     (λ c.
     let l = c.before.before in
     let a = l.before.args in
-    let z = none a.number l.loop.i (keys_in a.keys) (omega arith) in
-    told a.keys a.from a.number _ l.loop.invariant.0 l.before.requires.0 (omega arith)))
+    let z = none a.number l.loop-i.i (keys_in a.keys) (omega arith) in
+    told a.keys a.from a.number _ l.loop-i.invariant.0 l.before.requires.0 (omega arith)))

@@ -1,5 +1,5 @@
 -- `records::direction` meets its contract, by what the match told of the byte.
-use Rattle.journal.proofs.Names.{Decrypt, Direction, ◌≡◌, ap, direction_of, needs, refl, suc, sym, zero, ℕ}
+use Rattle.journal.proofs.Names.{Decrypt, Direction, ◌≡◌, ap, direction_of, rules, refl, suc, sym, zero, ℕ}
 use Rattle.journal.proofs.records.direction.Statement.{statement}
 use Rattle.journal.proofs.records.direction.Tie as tie
 
@@ -8,5 +8,5 @@ not-zero zero h = absurd (h refl)
 not-zero (suc n) h = refl
 
 pub direction_spec : {M : Type 1} → statement M
-direction_spec = tie.close (tie.spec (λ c. search needs) (λ c. ap {B = Direction} direction_of (sym c.match.keys1))
-    (λ c. not-zero _ c.match.rest.1))
+direction_spec = tie.close (tie.spec (λ c. search rules) (λ c. ap {B = Direction} direction_of (sym c.in_default.keys1))
+    (λ c. not-zero _ c.in_default.rest.1))

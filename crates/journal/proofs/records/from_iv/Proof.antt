@@ -1,8 +1,8 @@
 -- `records::from_iv` meets its contract.
-use Rattle.journal.proofs.Names.{needs}
+use Rattle.journal.proofs.Names.{rules}
 use Rattle.journal.proofs.records.from_iv.Statement.{statement}
 use Rattle.journal.proofs.records.from_iv.Tie as tie
 
 pub from_iv_spec : {M : Type 1} → statement M
-from_iv_spec = tie.close (tie.spec (λ c κs. search needs) (λ c κs. rw c.from-data.ensures c.before.before.requires.«data»)
-    (λ c. rw (c.behind.ensures, c.before.from-data.ensures)))
+from_iv_spec = tie.close (tie.spec (λ c. search rules) (λ c. rw c.from_data.ensures c.before.before.requires.«data»)
+    (λ c. rw (c.behind.ensures, c.before.from_data.ensures)))

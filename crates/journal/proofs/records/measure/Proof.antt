@@ -1,6 +1,6 @@
 -- `records::measure` meets its contract. Each early return is by the test that failed; where none did, the record stands whole.
-use Rattle.journal.proofs.Names.{Bool, List, Stands, ◌∙◌, ◌≡◌, ◌≤◌, after_record, ap, arith, behind, drop, false, length, needs, not}
-use Rattle.journal.proofs.Names.{not-false, not-true, now, size_at, sym, true, ℕ}
+use Rattle.journal.proofs.Names.{Bool, List, Stands, ◌∙◌, ◌≡◌, ◌≤◌, after_record, ap, arith, behind, drop, false, length, rules, not}
+use Rattle.journal.proofs.Names.{not-false, not-true, size_at, sym, true, ℕ}
 use Rattle.journal.proofs.Cases.{clash}
 use Rattle.journal.proofs.Standing.{not-standing, size-rest, measured, measured_is, measured_stands}
 use Rattle.journal.proofs.records.measure.Statement.{statement}
@@ -14,43 +14,43 @@ held : (t r : Bool) → r ≡ t → not r ≡ false → t ≡ true
 held t r e n = sym e ∙ not-false r n
 
 -- the bytes, and what is behind the IV
-module _ (x : tie.After-past-part3) where
+module _ (x : tie.After-past_part-middle) where
   abbrev b : List ℕ
-  b = now x.before.before.before.before.before.before.before.before.args.s
+  b = x.before.before.before.before.before.before.before.before.args.s.now
 
-  there : now x.past-part3.result ≡ measured b
+  there : x.past_part-middle.result.now ≡ measured b
   there = cc
 
 -- no test failed
-module _ (c : tie.Else4) where
-  abbrev at_room : tie.After-past-part3
+module _ (c : tie.Else-not-starts_part) where
+  abbrev at_room : tie.After-past_part-middle
   at_room = c.before.before.before.before
 
-  output_is : now c.before.before.skip2.result ≡ drop 5 (measured (b at_room))
-  output_is = c.before.before.skip2.ensures ∙ ap (drop 5) (there at_room)
+  output_is : c.before.before.skip-output.result.now ≡ drop 5 (measured (b at_room))
+  output_is = c.before.before.skip-output.ensures ∙ ap (drop 5) (there at_room)
 
   whole : Stands (b at_room)
   whole =
       let m = at_room.before.before.before.before in
-      measured_stands (b at_room) (omega arith) (held _ _ m.before.marked.ensures m.if2.left) (rw (← there at_room) (omega arith))
-      (rw (← output_is) (held _ _ c.before.starts-part.ensures c.if4.false))
+      measured_stands (b at_room) (omega arith) (held _ _ m.before.marked.ensures m.if-not-marked.false) (rw (← there at_room) (omega arith))
+      (rw (← output_is) (held _ _ c.before.starts_part.ensures c.if-not-starts_part.false))
 
-rest : (c : tie.After-behind) → length (now c.behind.result) ≡ length (after_record (b (at_room c.before)))
+rest : (c : tie.After-behind) → length (c.behind.result.now) ≡ length (after_record (b (at_room c.before)))
 rest c = ap length (c.behind.ensures ∙ ap behind (output_is c.before ∙ ap (drop 5) (measured_is _ (whole c.before))))
 
 pub measure_spec : {M : Type 1} → statement M
 measure_spec =
-    tie.close (tie.spec (λ c. not-standing _ (λ s. omega (arith, s.long))) (λ c κs. search needs)
-    (λ c. no_test _ _ c.if2.true (λ s. c.before.marked.ensures ∙ s.mark)) (λ c κs. search needs) (λ c κs. search needs)
-    (λ c κs. search needs) (λ c κs. search needs)
+    tie.close (tie.spec (λ c. not-standing _ (λ s. omega (arith, s.long))) (λ c. search rules)
+    (λ c. no_test _ _ c.if-not-marked.true (λ s. c.before.marked.ensures ∙ s.mark)) (λ c. search rules) (λ c. search rules)
+    (λ c. search rules) (λ c. search rules)
     (λ c.
     let x = c.before in
-    not-standing _ (λ s. let h : 5 ≤ length (now x.past-part3.result) = rw (there x, measured_is _ s) s.middle in omega arith))
-    (λ c κs. search needs) (λ c κs. search needs)
+    not-standing _ (λ s. let h : 5 ≤ length (x.past_part-middle.result.now) = rw (there x, measured_is _ s) s.middle in omega arith))
+    (λ c. search rules) (λ c. search rules)
     (λ c.
     let y = c.before.before in
     let x = y.before.before in
-    no_test (b x) c.before.starts-part.result c.if4.true
-    (λ s. rw (c.before.starts-part.ensures, y.skip2.ensures, there x, measured_is (b x) s) s.output))
-    (λ c κs. held _ _ c.before.starts-part.ensures c.if4.false)
+    no_test (b x) c.before.starts_part.result c.if-not-starts_part.true
+    (λ s. rw (c.before.starts_part.ensures, y.skip-output.ensures, there x, measured_is (b x) s) s.output))
+    (λ c. held _ _ c.before.starts_part.ensures c.if-not-starts_part.false)
     (λ c. omega (arith, rest c, size-rest _ (whole c.before))) (λ c. omega (arith, rest c, size-rest _ (whole c.before))))

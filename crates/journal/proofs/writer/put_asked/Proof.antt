@@ -1,5 +1,5 @@
 -- `writer::put_asked` meets its contract: head, label, data and IV, one behind the other.
-use Rattle.journal.proofs.Names.{◌++◌, ◌+◌, ◌∙◌, ◌≡◌, append_assoc, arith, head_of, length, length-append, needs, now, over-behind}
+use Rattle.journal.proofs.Names.{◌++◌, ◌+◌, ◌∙◌, ◌≡◌, append_assoc, arith, head_of, length, length-append, rules, over-behind}
 use Rattle.journal.proofs.Names.{part}
 use Rattle.journal.proofs.Writing.{copied_then, length-part-of, length-head}
 use Rattle.journal.proofs.writer.put_asked.Statement.{statement}
@@ -14,20 +14,20 @@ returns c =
     let at_head = at_copy.before.before.before in
     let a = at_head.before.before.before.before.before.args in
     let h = head_of a.call in
-    let l = part (now a.label) in
-    let d = part (now a.«data») in
-    let first = copied_then h l _ (now a.out) _ _ 6 at_head.head.ensures (length-head a.call) at_copy.copy.ensures.1
-    at_label.put-part.ensures in
-    let n : length (h ++ l) ≡ 10 + length (now a.label) =
-    omega (arith, length-append h l, length-head a.call, length-part-of (now a.label)) in
-    let second = over-behind (h ++ l) d (now a.out) _ _ _ n first at-data.put-part2.ensures in
-    let m : length ((h ++ l) ++ d) ≡ 10 + length (now a.label) + 4 + length (now a.«data») =
-    omega (arith, length-append (h ++ l) d, n, length-part-of (now a.«data»)) in
-    over-behind ((h ++ l) ++ d) (part (now a.iv)) (now a.out) _ _ _ m second at-iv.put-part3.ensures
+    let l = part (a.label.now) in
+    let d = part (a.«data».now) in
+    let first = copied_then h l _ (a.out-1.now) _ _ 6 at_head.head-head.ensures (length-head a.call) at_copy.copy.ensures.1
+    at_label.put_part.ensures in
+    let n : length (h ++ l) ≡ 10 + length (a.label.now) =
+    omega (arith, length-append h l, length-head a.call, length-part-of (a.label.now)) in
+    let second = over-behind (h ++ l) d (a.out-1.now) _ _ _ n first at-data.put_part-2.ensures in
+    let m : length ((h ++ l) ++ d) ≡ 10 + length (a.label.now) + 4 + length (a.«data».now) =
+    omega (arith, length-append (h ++ l) d, n, length-part-of (a.«data».now)) in
+    over-behind ((h ++ l) ++ d) (part (a.iv.now)) (a.out-1.now) _ _ _ m second at-iv.put_part-3.ensures
     ∙ simp append_assoc
 
 pub put_asked_spec : {M : Type 1} → statement M
-put_asked_spec = tie.close (tie.spec (λ c κs. search needs) (λ c. search needs) (λ c κs. search needs) (λ c. search needs)
-    (λ c. search needs) (λ c. search needs) (λ c κs. search needs) (λ c. search needs) (λ c. search needs) (λ c. search needs)
-    (λ c. search needs) (λ c. search needs) (λ c κs. search needs) (λ c. search needs) (λ c. search needs) (λ c. search needs)
-    (λ c. search needs) (λ c. search needs) (λ c κs. search needs) (λ c. search needs) returns)
+put_asked_spec = tie.close (tie.spec (λ c. search rules) (λ c. search rules) (λ c. search rules) (λ c. search rules)
+    (λ c. search rules) (λ c. search rules) (λ c. search rules) (λ c. search rules) (λ c. search rules) (λ c. search rules)
+    (λ c. search rules) (λ c. search rules) (λ c. search rules) (λ c. search rules) (λ c. search rules) (λ c. search rules)
+    (λ c. search rules) (λ c. search rules) (λ c. search rules) (λ c. search rules) returns)

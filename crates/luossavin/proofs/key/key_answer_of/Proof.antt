@@ -6,5 +6,5 @@ use Rattle.luossavin.proofs.key.key_answer_of.Tie as tie
 
 pub key_answer_of_spec : {M : Type 1} → statement M
 unfolding key_answer_of
-key_answer_of_spec = tie.close (tie.spec (λ c. rw c.match.keys1) (λ c. rw c.match.keys2)
-    (λ c. rw (ne_eqb _ _ c.match.rest.0.1, ne_eqb _ _ c.match.rest.1)))
+key_answer_of_spec = tie.close (tie.spec (λ c. rw c.in_default.keys1) (λ c. rw c.in_default.keys2)
+    (λ c. rw (ne_eqb _ _ c.in_default.rest.0.1, ne_eqb _ _ c.in_default.rest.1)))

@@ -6,4 +6,4 @@ use Rattle.luossavin.proofs.key.luossavin_key_retire.Tie as tie
 
 pub luossavin_key_retire_spec : {M : Type 1} → statement M
 unfolding host_key_retire
-luossavin_key_retire_spec = tie.close (tie.spec (λ c. rw (ne_eqb _ _ c.if1.true)) (λ c. rw c.if1.false))
+luossavin_key_retire_spec = tie.close (tie.spec (λ c. rw (ne_eqb _ _ c.if-key-ne0.true)) (λ c. rw c.if-key-ne0.false))

@@ -3,4 +3,4 @@ use Rattle.pieces.proofs.checks.refuse.Statement.{statement}
 use Rattle.pieces.proofs.checks.refuse.Tie as tie
 
 pub refuse_spec : {M : Type 1} → statement M
-refuse_spec = tie.close (tie.spec (λ c. rw c.if1.true) (λ c. rw c.if1.false))
+refuse_spec = tie.close (tie.spec (λ c. rw c.if-test.true) (λ c. rw c.if-test.false))

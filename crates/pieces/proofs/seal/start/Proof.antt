@@ -1,13 +1,13 @@
 -- `pieces::seal::start` meets its contract: what the checks refuse is refused, and otherwise the flow is at the counter after J0,
 -- and J0, the label's hash and the cipher of J0 are `tagging::begin`'s.
-use Rattle.pieces.proofs.Names.{GcmCounting, J0, ◌∙◌, gcm_next, iv_twelve_or_sixteen, needs, now, seal_after, seal_start, sym}
+use Rattle.pieces.proofs.Names.{GcmCounting, J0, ◌∙◌, gcm_next, iv_twelve_or_sixteen, rules, seal_after, seal_start, sym}
 use Rattle.pieces.proofs.KeyStream.{flow_start}
 use Rattle.pieces.proofs.Passing.{starting_passed}
 use Rattle.pieces.proofs.Sealing.{no_text}
 use Rattle.pieces.proofs.seal.start.Statement.{statement}
 use Rattle.pieces.proofs.seal.start.Tie as tie
 
-returns_2 : tie.Need-returns-2
+returns_2 : tie.Need-returns
 unfolding seal_start seal_after
 returns_2 c =
     let at_next = c.before.before.before in
@@ -15,21 +15,21 @@ returns_2 c =
     let told = at-begin.before.before.before.before.before.before in
     let at-check = told.before.before in
     let a = at-check.before.before.before.before.args in
-    let j = J0 a.cipher.rk (now a.iv) in
-    let begun = at-begin.begin.ensures in
-    rw (← at-check.gcm-start.ensures, told.enum_told.given.1, c.done.ensures, c.before.begin2.ensures)
-    (rw (at_next.gcm-block-add-one.ensures.0, begun.0, begun.1.0, begun.1.1.0, begun.1.1.1)
-    (rw (← flow_start GcmCounting a.cipher.rk (gcm_next j), no_text a.cipher.rk j, at-check.before.number_in.ensures)))
+    let j = J0 a.cipher.rk-1 (a.iv.now) in
+    let begun = at-begin.begin-begun.ensures in
+    rw (← at-check.gcm_start-checked.ensures, told.enum_told-1.given.1, c.done.ensures, c.before.begin.ensures)
+    (rw (at_next.gcm_block_add_one.ensures.0, begun.0, begun.1.0, begun.1.1.0, begun.1.1.1)
+    (rw (← flow_start GcmCounting a.cipher.rk-1 (gcm_next j), no_text a.cipher.rk-1 j, at-check.before.number_in-key.ensures)))
 
 pub start_spec : {M : Type 1} → statement M
 unfolding seal_start
-start_spec = tie.close (tie.spec (λ c. search needs) (λ c. search needs) (λ c. search needs) (λ c. search needs) (λ c. search needs)
-    (λ c. search needs)
+start_spec = tie.close (tie.spec (λ c. search rules) (λ c. search rules) (λ c. search rules) (λ c. search rules) (λ c. search rules)
+    (λ c. search rules)
     (λ c. let told = c.before.before.before.before in
-    rw (← told.before.before.gcm-start.ensures, told.checked.given.1, c.before.before.refused.ensures, c.shut.ensures)
-    (rw (c.before.number.ensures, told.before.before.before.number_in.ensures)))
-    (λ c. search needs) (λ c. search needs) (λ c. search needs) (λ c. search needs) (λ c κs. search needs)
-    (λ c κs. let told = c.before.before.before.before.before in
-    let iv = (starting_passed _ _ _ _ _ (sym told.before.before.gcm-start.ensures ∙ told.enum_told.given.1)).taken in
-    (c.before.lent.ensures.0, iv_twelve_or_sixteen _ iv))
-    (λ c. search needs) (λ c κs. search needs) (λ c. search needs) returns_2)
+    rw (← told.before.before.gcm_start-checked.ensures, told.checked-1.given.1, c.before.before.refused.ensures, c.shut.ensures)
+    (rw (c.before.number.ensures, told.before.before.before.number_in-key.ensures)))
+    (λ c. search rules) (λ c. search rules) (λ c. search rules) (λ c. search rules) (λ c. search rules)
+    (λ c. let told = c.before.before.before.before.before in
+    let iv = (starting_passed _ _ _ _ _ (sym told.before.before.gcm_start-checked.ensures ∙ told.enum_told-1.given.1)).taken in
+    (c.before.lent-lent.ensures.0, iv_twelve_or_sixteen _ iv))
+    (λ c. search rules) (λ c. search rules) (λ c. search rules) returns_2)

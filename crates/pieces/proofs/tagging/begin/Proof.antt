@@ -1,6 +1,6 @@
 -- `pieces::tagging::begin` meets its contract: H and J0 are those of the keys and the IV, and J0's last word is the number in its last four
 -- bytes.
-use Rattle.pieces.proofs.Names.{Fits, get_or, last-four, needs, refl, w32}
+use Rattle.pieces.proofs.Names.{Fits, get_or, last-four, rules, refl, w32}
 use Rattle.pieces.proofs.tagging.begin.Statement.{statement}
 use Rattle.pieces.proofs.tagging.begin.Tie as tie
 
@@ -8,10 +8,10 @@ returns : tie.Need-returns
 returns c =
     let at-counter = c.before.before in
     let w = at-counter.first_counter_lem.result in
-    let word : Fits w32 (get_or w 3 0) = search needs in
+    let word : Fits w32 (get_or w 3 0) = search rules in
     rw (← last-four w word.fits, c.before.begin.ensures, c.ciphered.ensures, at-counter.first_counter_lem.ensures)
-    (rw at-counter.before.hash-key.ensures (refl, (refl, (refl, refl))))
+    (rw at-counter.before.hash_key-h.ensures (refl, (refl, (refl, refl))))
 
 pub begin_spec : {M : Type 1} → statement M
-begin_spec = tie.close (tie.spec (λ c κs. search needs) (λ c κs. c.before.before.before.before.requires.1) (λ c. search needs)
-    (λ c. search needs) (λ c κs. search needs) returns)
+begin_spec = tie.close (tie.spec (λ c. search rules) (λ c. c.before.before.before.before.requires.1) (λ c. search rules)
+    (λ c. search rules) (λ c. search rules) returns)

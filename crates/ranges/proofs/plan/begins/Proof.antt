@@ -5,4 +5,4 @@ use Rattle.ranges.proofs.plan.begins.Tie as tie
 
 pub begins_spec : {M : Type 1} → statement M
 begins_spec = tie.close (tie.spec
-    (λ c. (rw (lt-ltb _ _ c.if1.taken), omega arith)) (λ c. (rw (le-ltb _ _ c.if1.left), omega arith)))
+    (λ c. (rw (lt-ltb _ _ c.if-at-n.true), omega arith)) (λ c. (rw (le-ltb _ _ c.if-at-n.false), omega arith)))

@@ -4,4 +4,4 @@ use Rattle.ranges.proofs.plan.start_at.Statement.{statement}
 use Rattle.ranges.proofs.plan.start_at.Tie as tie
 
 pub start_at_spec : {M : Type 1} → statement M
-start_at_spec = tie.close (tie.spec (λ c. rw (lt-ltb _ _ c.if1.taken)) (λ c. rw (le-ltb _ _ c.if1.left)))
+start_at_spec = tie.close (tie.spec (λ c. rw (lt-ltb _ _ c.if-at-n.true)) (λ c. rw (le-ltb _ _ c.if-at-n.false)))

@@ -1,10 +1,10 @@
 -- `ranges::range::reach` meets its contract: key and IV, and then where the stretch ends.
-use Rattle.ranges.proofs.Names.{needs, reach_check}
+use Rattle.ranges.proofs.Names.{rules, reach_check}
 use Rattle.ranges.proofs.range.reach.Statement.{statement}
 use Rattle.ranges.proofs.range.reach.Tie as tie
 
 pub reach_spec : {M : Type 1} → statement M
 unfolding reach_check
-reach_spec = tie.close (tie.spec (λ c. search needs) (λ c. search needs) (λ c. search needs) (λ c. search needs)
-    (λ c. let at-past = c.before.before in rw (c.and_then.ensures, c.before.refuse.ensures, at-past.past-limit.ensures)
-    (rw at-past.before.key-and-iv.ensures)))
+reach_spec = tie.close (tie.spec (λ c. search rules) (λ c. search rules) (λ c. search rules) (λ c. search rules)
+    (λ c. let at-past = c.before.before in rw (c.and_then.ensures, c.before.refuse.ensures, at-past.past_limit-past.ensures)
+    (rw at-past.before.key_and_iv-first.ensures)))

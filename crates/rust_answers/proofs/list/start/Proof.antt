@@ -4,12 +4,12 @@ use Rattle.std.proofs.Common.{◌+◌, ◌-◌, ◌*◌, ◌≤◌, rules}
 use Rattle.rust_answers.proofs.list.start.Statement.{statement}
 use Rattle.rust_answers.proofs.list.start.Tie as tie
 
-abbrev invariant_loop : tie.invariant_loop
+abbrev invariant_loop : tie.invariant-loop-before
 invariant_loop rest i at₀ before₀ at before = (before ≤ i) × (at ≤ 24 + before * 4294967296)
 
-abbrev decreases_loop : tie.decreases_loop
+abbrev decreases_loop : tie.decreases-loop-before
 decreases_loop rest i at₀ before₀ at before = i - before
 
 pub start_spec : {M : Type 1} → statement M
-start_spec = tie.close (tie.spec invariant_loop decreases_loop (λ c. search rules) (λ c. search rules) (λ c. search rules) (λ c κs. search rules)
+start_spec = tie.close (tie.spec invariant_loop decreases_loop (λ c. search rules) (λ c. search rules) (λ c. search rules) (λ c. search rules)
     (λ c. search rules) (λ c. search rules) (λ c. search rules) (λ c. search rules) (λ c. search rules))

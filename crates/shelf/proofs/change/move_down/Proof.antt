@@ -5,11 +5,11 @@ use Rattle.shelf.proofs.Names.{length, length-set, paste, paste-zero, refl, set,
 use Rattle.shelf.proofs.change.move_down.Statement.{statement}
 use Rattle.shelf.proofs.change.move_down.Tie as tie
 
-abbrev invariant_loop : tie.invariant_loop
+abbrev invariant_loop : tie.invariant-loop-i
 invariant_loop shelf₀ to from n i₀ shelf i =
     (i ≤ n) × (length shelf ≡ length shelf₀) × (paste shelf (to + i) (drop (from + i) shelf) (n - i) ≡ paste shelf₀ to (drop from shelf₀) n)
 
-abbrev decreases_loop : tie.decreases_loop
+abbrev decreases_loop : tie.decreases-loop-i
 decreases_loop shelf₀ to from n i₀ shelf i = n - i
 
 -- one byte has moved, and the others are to move from where they stand
@@ -24,18 +24,18 @@ moved s to from n h k =
     let e : suc to + n ≡ m = omega arith in
     rw (e, take-suc-set s to v, drop-set-lt (suc from) s to v, drop-set-lt m s to v, drop-cons s from 0, append_assoc (take to s))
 
-loop_again : tie.Need-loop-preserved invariant_loop decreases_loop
+loop_again : tie.Need-loop-i-preserved invariant_loop decreases_loop
 loop_again c =
     let l = c.before.before in
     let a = l.before.args in
-    let i = l.loop.i in
+    let i = l.loop-i.i in
     let m = a.n - (i + 1) in
     let n : a.n - i ≡ suc m = omega arith in
     let p : a.to + (i + 1) ≡ suc (a.to + i) = omega arith in
     let q : a.from + (i + 1) ≡ suc (a.from + i) = omega arith in (
       omega arith,
-      simp length-set l.loop.invariant.1,
-      rw (p, q) (moved l.loop.shelf (a.to + i) (a.from + i) m (omega arith) (omega arith) ∙ (rw n at l.loop.invariant.2)),
+      simp length-set l.loop-i.invariant.1,
+      rw (p, q) (moved l.loop-i.shelf (a.to + i) (a.from + i) m (omega arith) (omega arith) ∙ (rw n at l.loop-i.invariant.2)),
     )
 
 pub move_down_spec : {M : Type 1} → statement M
@@ -45,5 +45,5 @@ move_down_spec =
     (λ c.
     let l = c.before in
     let a = l.before.args in
-    let z : a.n - l.loop.i ≡ 0 = omega arith in
-    paste-zero l.loop.shelf (a.to + l.loop.i) (drop (a.from + l.loop.i) l.loop.shelf) ∙ (rw z at l.loop.invariant.2)))
+    let z : a.n - l.loop-i.i ≡ 0 = omega arith in
+    paste-zero l.loop-i.shelf (a.to + l.loop-i.i) (drop (a.from + l.loop-i.i) l.loop-i.shelf) ∙ (rw z at l.loop-i.invariant.2)))

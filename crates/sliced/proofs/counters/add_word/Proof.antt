@@ -1,6 +1,6 @@
 -- `sliced::counters::add_word` meets its contract. The invariant of both loops: the low i bits are added (`Rippled`). A turn adds one row
 -- more (`rippled_next`): in the first loop to the row that stands in x, in the second, where it is empty, to zeros.
-use Rattle.sliced.proofs.Names.{List, Masks, ◌*◌, ◌+◌, ◌-◌, ◌<◌, ◌^◌, ◌∙◌, ◌≡◌, ◌≤◌, arith, bit, blank_room, length, needs, sym, ℕ}
+use Rattle.sliced.proofs.Names.{List, Masks, ◌*◌, ◌+◌, ◌-◌, ◌<◌, ◌^◌, ◌∙◌, ◌≡◌, ◌≤◌, arith, bit, blank_room, length, rules, sym, ℕ}
 use Rattle.sliced.proofs.Ripple.{Rippled, rippled_first, rippled_next, rippled_last}
 use Rattle.sliced.proofs.counters.add_word.Statement.{statement}
 use Rattle.sliced.proofs.counters.add_word.Tie as tie
@@ -12,28 +12,28 @@ add_word_spec = tie.close (tie.spec
     (λ x₁ n w m y₁ i₁ x y i.
     (i₁ ≤ i) × (i ≤ 32) × (length x ≡ 256) × (length y ≡ 8) × Masks 32 (λ k. bit k w) m
     × ((x₀ y₀ : List ℕ) → Rippled w i₁ x₀ y₀ x₁ y₁ → Rippled w i x₀ y₀ x y))
-    (λ x₁ n w m y₁ i₁ x y i. 32 - i) (λ c κs. search needs) (λ c. search (needs, rippled_first)) (λ c κs. search needs) (λ c. search needs)
-    (λ c. search needs) (λ c κs. search needs) (λ c. search needs) (λ c. search needs)
+    (λ x₁ n w m y₁ i₁ x y i. 32 - i) (λ c. search rules) (λ c. search (rules, rippled_first)) (λ c. search rules) (λ c. search rules)
+    (λ c. search rules) (λ c. search rules) (λ c. search rules) (λ c. search rules)
     (λ c.
     let at_row = c.before.before in
     let at_loop = at_row.before.before.before.before in
-    let l = at_loop.loop in
+    let l = at_loop.loop-i in
     let S = at_loop.before.before.before in
     let a = S.args in
     let R = c.add_row.ensures in
     let n = S.requires.0 in
     let next = rippled_next a.w l.i _ _ _ _ _ _ _ _ (λ k. l.invariant.3 l.i k (omega arith)) at_row.row.ensures l.invariant.4 R in
     (omega arith, R.size_x, R.size_y, l.invariant.3, next))
-    (λ c. search needs) (λ c. search needs) (λ c. search needs) (λ c κs. search needs) (λ c. search needs) (λ c. search needs)
+    (λ c. search rules) (λ c. search rules) (λ c. search rules) (λ c. search rules) (λ c. search rules) (λ c. search rules)
     (λ c.
     let at-loop2 = c.before.before.before.before in
-    let l = at-loop2.loop2 in
+    let l = at-loop2.loop-i-2 in
     let at_loop = at-loop2.before.before in
     let S = at_loop.before.before.before in
     let a = S.args in
-    let R = c.add-row2.ensures in
-    let P = l.invariant.5 a.x.now a.y at_loop.loop.invariant.4 in
-    let past = at-loop2.before.loop-test.false in (
+    let R = c.add_row-in-loop-i-2.ensures in
+    let P = l.invariant.5 a.x.now a.y at_loop.loop-i.invariant.4 in
+    let past = at-loop2.before.loop-i-test.false in (
       omega arith,
       omega arith,
       R.size_x,
@@ -45,8 +45,8 @@ add_word_spec = tie.close (tie.spec
           (l.invariant.5 x₀ y₀ Q) R,
     ))
     (λ c.
-    let l = c.before.loop2 in
+    let l = c.before.loop-i-2 in
     let at_loop = c.before.before.before in
     let a = at_loop.before.before.before.args in
-    let h : a.w < 2 ^ 32 = search needs in
-    (rippled_last a.w l.i _ _ _ _ (omega arith) h (l.invariant.5 a.x.now a.y at_loop.loop.invariant.4), l.invariant.2)))
+    let h : a.w < 2 ^ 32 = search rules in
+    (rippled_last a.w l.i _ _ _ _ (omega arith) h (l.invariant.5 a.x.now a.y at_loop.loop-i.invariant.4), l.invariant.2)))

@@ -1,32 +1,32 @@
 -- `sliced::counters::count` meets its contract: in each lane the last word of c and the lane's number are added, and what is carried to
 -- the other words (`lanes-counted`).
-use Rattle.sliced.proofs.Names.{AreWords, Fits, ◌^◌, below_each, blank_room, get_or, needs, number_at, w32, ℕ}
+use Rattle.sliced.proofs.Names.{AreWords, Fits, ◌^◌, below_each, blank_room, get_or, rules, number_at, w32, ℕ}
 use Rattle.sliced.proofs.CounterDigits.{added-number, added_carry, lanes-counted}
 use Rattle.sliced.proofs.counters.count.Statement.{statement}
 use Rattle.sliced.proofs.counters.count.Tie as tie
 
 pub count_spec : {M : Type 1} → statement M
 count_spec = tie.close (tie.spec
-    (λ c κs. search needs) (λ c. search needs) (λ c κs. search needs) (λ c κs. search needs) (λ c. search needs)
-    (λ c κs. search (needs, c.before.before.before.before.before.before.requires.2.1)) (λ c. search needs)
-    (λ c κs. search (needs, c.before.before.before.before.before.before.before.before.requires.1.1)) (λ c. search needs)
-    (λ c κs. search (needs, c.before.before.before.before.before.before.before.before.before.before.requires.0.1))
+    (λ c. search rules) (λ c. search rules) (λ c. search rules) (λ c. search rules) (λ c. search rules)
+    (λ c. search (rules, c.before.before.before.before.before.before.requires.2.1)) (λ c. search rules)
+    (λ c. search (rules, c.before.before.before.before.before.before.before.before.requires.1.1)) (λ c. search rules)
+    (λ c. search (rules, c.before.before.before.before.before.before.before.before.before.before.requires.0.1))
     (λ c.
-    let W0 = c.add-word4 in
+    let W0 = c.add_word in
     let at1 = c.before.before in
-    let W1 = at1.add-word3 in
+    let W1 = at1.add_word-y1 in
     let at2 = at1.before.before in
-    let W2 = at2.add-word2 in
+    let W2 = at2.add_word-y2 in
     let at-keep = at2.before in
-    let K = at-keep.keep-carries in
+    let K = at-keep.keep_carries in
     let at3 = at-keep.before.before in
-    let W3 = at3.add-word in
+    let W3 = at3.add_word-y3 in
     let at-numbers = at3.before.before in
     let N = at-numbers.numbers in
     let S = at-numbers.before.before in
     let a = S.args in
     let x = a.t2 in
-    let fits : (i : ℕ) → Fits w32 (get_or x i 0) = λ i. search (needs, S.well-formed.1.0) in
+    let fits : (i : ℕ) → Fits w32 (get_or x i 0) = λ i. search (rules, S.well-formed.1.0) in
     let small : AreWords x = below_each (2 ^ 32) x (λ i. (fits i).fits) in (
       λ e he.
           lanes-counted x _ _ _ _ W3.result K.result (number_at e) e _ _ _ small

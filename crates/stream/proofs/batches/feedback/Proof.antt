@@ -1,37 +1,37 @@
 -- `stream::batches::feedback` meets its contract. The first block goes by itself (`fed_reached`), and a turn of the loop goes as many
 -- blocks on as the batch has (`fed_on`), each from the block before it.
-use Rattle.stream.proofs.Names.{CfbDecrypt, Fed, ◌-◌, arith, fed_first, fed_on, fed_reached, length, length-unwords, needs}
+use Rattle.stream.proofs.Names.{CfbDecrypt, Fed, ◌-◌, arith, fed_first, fed_on, fed_reached, length, length-unwords, rules}
 use Rattle.stream.proofs.Names.{reached-first, stream_mode}
 use Rattle.stream.proofs.Ahead.{cfb_fed}
 use Rattle.stream.proofs.batches.feedback.Statement.{statement}
 use Rattle.stream.proofs.batches.feedback.Tie as tie
 
-abbrev invariant_loop : tie.invariant_loop
+abbrev invariant_loop : tie.invariant-loop-at
 invariant_loop t rk d out₀ at₀ out at = Fed (stream_mode CfbDecrypt rk) d out₀ out at
 
-abbrev decreases_loop : tie.decreases_loop
+abbrev decreases_loop : tie.decreases-loop-at
 decreases_loop t rk d out₀ at₀ out at = length d - at
 
-loop_again : tie.Need-loop-preserved invariant_loop decreases_loop
+loop_again : tie.Need-loop-at-preserved invariant_loop decreases_loop
 loop_again c =
     let at-xored = c.before.before in
     let at_next = at-xored.before.before.before.before in
-    let l = at_next.before.before.loop in
-    fed_on _ (cfb_fed _) _ _ l.out _ l.at at_next.next-batch.result l.invariant (omega arith) (omega arith)
-    at-xored.encrypt-xored.ensures
+    let l = at_next.before.before.loop-at in
+    fed_on _ (cfb_fed _) _ _ l.out-1 _ l.at at_next.next_batch-m.result l.invariant (omega arith) (omega arith)
+    at-xored.encrypt_xored.ensures
 
-returns_2 : tie.Need-returns-2 invariant_loop decreases_loop
+returns_2 : tie.Need-returns invariant_loop decreases_loop
 returns_2 c =
     let at_loop = c.before.before in
-    let l = at_loop.loop in
+    let l = at_loop.loop-at in
     let at-step = at_loop.before.before.before in
     let iv = at-step.before.before.before.before.before.before.args.iv in
-    rw c.block_at.ensures (fed_reached _ (cfb_fed _) _ _ _ _ l.out l.at l.invariant (length-unwords iv) (omega arith) (omega arith)
+    rw c.block_at.ensures (fed_reached _ (cfb_fed _) _ _ _ _ l.out-1 l.at l.invariant (length-unwords iv) (omega arith) (omega arith)
     at-step.step.ensures.1)
 
 pub feedback_spec : {M : Type 1} → statement M
-feedback_spec = tie.close (tie.spec invariant_loop decreases_loop (λ c. reached-first _ _ _ _) (λ c κs. search needs)
+feedback_spec = tie.close (tie.spec invariant_loop decreases_loop (λ c. reached-first _ _ _ _) (λ c. search rules)
     (λ c. fed_first _ _ _ (omega arith) (omega arith)) (λ c. omega arith) (λ c. omega arith) (λ c. omega arith) (λ c. omega arith)
     (λ c. omega arith) (λ c. omega arith) (λ c. omega arith) (λ c. omega arith) (λ c. omega arith) (λ c. omega arith) (λ c. omega arith)
-    (λ c. omega arith) (λ c. omega arith) (λ c. search needs) (λ c. omega arith) (λ c. omega arith) (λ c. omega arith) loop_again
+    (λ c. omega arith) (λ c. omega arith) (λ c. search rules) (λ c. omega arith) (λ c. omega arith) (λ c. omega arith) loop_again
     (λ c. omega arith) (λ c. omega arith) (λ c. omega arith) returns_2)

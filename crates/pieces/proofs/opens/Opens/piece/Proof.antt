@@ -1,16 +1,16 @@
 -- `pieces::opens::Opens::piece` meets its contract: what the checks refuse leaves the state, and otherwise the piece is hashed.
-use Rattle.pieces.proofs.Names.{◌∙◌, needs, opens_piece, sym}
+use Rattle.pieces.proofs.Names.{◌∙◌, rules, opens_piece, sym}
 use Rattle.pieces.proofs.Passing.{sum_fits, running_passed}
 use Rattle.pieces.proofs.opens.Opens.piece.Statement.{statement}
 use Rattle.pieces.proofs.opens.Opens.piece.Tie as tie
 
 pub piece_spec : {M : Type 1} → statement M
 unfolding opens_piece
-piece_spec = tie.close (tie.spec (λ c. search needs) (λ c. search needs) (λ c. search needs)
-    (λ c. let told = c.before.before in rw (← told.before.before.running.ensures, told.checked.given.1, c.refused.ensures))
-    (λ c. search needs) (λ c. search needs)
+piece_spec = tie.close (tie.spec (λ c. search rules) (λ c. search rules) (λ c. search rules)
+    (λ c. let told = c.before.before in rw (← told.before.before.running-checked.ensures, told.checked-1.given.1, c.refused.ensures))
+    (λ c. search rules) (λ c. search rules)
     (λ c. let told = c.before.before.before in
-    sum_fits (running_passed _ _ _ _ (sym told.before.before.running.ensures ∙ told.enum_told.given.1)))
-    (λ c. search needs)
+    sum_fits (running_passed _ _ _ _ (sym told.before.before.running-checked.ensures ∙ told.enum_told-1.given.1)))
+    (λ c. search rules)
     (λ c. let told = c.before.before.before.before in
-    rw (← told.before.before.running.ensures, told.enum_told.given.1, c.done.ensures, c.before.take_in.ensures)))
+    rw (← told.before.before.running-checked.ensures, told.enum_told-1.given.1, c.done.ensures, c.before.take_in.ensures)))
