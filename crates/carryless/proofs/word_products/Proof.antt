@@ -15,18 +15,18 @@ word_products_spec = tie.close (tie.spec
     (λ c. search rules) (λ c. search rules)
     (λ c.
     let at_b = c.before.before in
-    rw at_b.words_of-b.ensures.0 (lends_word _ _ at_b.before.before.requires c.before.loop-k.k (omega arith)))
+    rw at_b.words_of-b.ensures.0 (lends_word _ _ at_b.requires c.loop-k.k (omega arith)))
     (λ c. search rules) (λ c. search rules) (λ c. search rules) (λ c. search rules)
     (λ c.
-    let l = c.before.before.loop-k in
+    let l = c.loop-k in
     (omega arith, search rules, each_next _ l.k _ l.z (omega arith) c.lent32.ensures l.invariant.2))
     (λ c. search rules) (λ c. search rules)
     (λ c.
     let at_b = c.before.before in
-    rw at_b.words_of-b.ensures.0 (lends_word _ _ at_b.before.before.requires 8 (omega arith)))
+    rw at_b.words_of-b.ensures.0 (lends_word _ _ at_b.requires 8 (omega arith)))
     (λ c. search rules)
     (λ c.
-    let l = c.before.before.loop-k in
+    let l = c.loop-k in
     let at_b = c.before.before.before in
     let at_a = at_b.before in
     let all = each_next (λ i. clmul 32 (get_or at_a.words_of-a.result i 0) (get_or at_b.words_of-b.result i 0)) 8 _ l.z (omega arith)

@@ -7,11 +7,11 @@ use Rattle.cbc.proofs.decrypt.Statement.{statement}
 use Rattle.cbc.proofs.decrypt.Tie as tie
 
 -- the last block, decrypted
-last_is : (x : tie.After-last_block-last) → let a = x.before.before.before.before.before.args in
+last_is : (x : tie.After-last_block-last) → let a = x.args in
     x.last_block-last.result ≡ drop (length (a.«data».now) - 16) (cbc_text a.rk (unwords a.iv) (a.«data».now))
 last_is x =
-    let a = x.before.before.before.before.before.args in
-    rw (x.before.reversed-back.ensures, reverse-reverse a.rk) at x.last_block-last.ensures
+    let a = x.args in
+    rw (x.reversed-back.ensures, reverse-reverse a.rk) at x.last_block-last.ensures
 
 returns : tie.Need-returns-in_default
 returns c =
@@ -26,7 +26,7 @@ put-front_requires : tie.Need-put_front-requires
 put-front_requires c =
     let at-opened = c.before.before.before.before.before.before.before in
     let at-unpad = at-opened.before.before in
-    let last = at-unpad.before.last_block-last in
+    let last = at-unpad.last_block-last in
     let S = at-unpad.before.before.before.before.before.before in
     let n : length last.result ≡ 16 = search (rules, last) in
     omega (arith, unpadded-le last.result _ (sym at-unpad.unpad-opened.ensures ∙ at-opened.opened-1.given.1), S.requires.1)

@@ -23,7 +23,7 @@ loop_again c =
     let at_next = at-xored.before.before.before.before in
     let at_loop = at_next.before.before in
     let l = at_loop.loop-at in
-    let a = at_loop.before.before.before.before.before.before.before.before.before.before.before.args in
+    let a = at_loop.args in
     let d = a.«data».now in
     let at = l.at in
     let n = at_next.next_batch-m.result in
@@ -32,9 +32,9 @@ loop_again c =
 
 returns_3 : tie.Need-returns invariant_loop decreases_loop
 returns_3 c =
-    let l = c.before.loop-at in
+    let l = c.loop-at in
     let at-step = c.before.before.before.before in
-    let a = at-step.before.before.before.before.before.before.before.before.args in
+    let a = at-step.args in
     let d = a.«data».now in
     let s = unwords a.iv in
     let sixteen = length-unwords a.iv in (
@@ -46,8 +46,8 @@ returns_3 c =
 
 pub decrypt_batches_spec : {M : Type 1} → statement M
 decrypt_batches_spec = tie.close (tie.spec invariant_loop decreases_loop (λ c. search rules)
-    (λ c. (refl, at-start (length-unwords c.before.before.before.before.before.args.iv)))
-    (λ c. (refl, at-start (length-unwords c.before.before.before.before.before.before.args.iv))) (λ c. search rules)
+    (λ c. (refl, at-start (length-unwords c.args.iv)))
+    (λ c. (refl, at-start (length-unwords c.args.iv))) (λ c. search rules)
     (λ c. fed_first _ _ _ (omega arith) (omega arith)) (λ c. omega arith) (λ c. omega arith) (λ c. omega arith) (λ c. omega arith)
     (λ c. omega arith) (λ c. omega arith) (λ c. omega arith) (λ c. omega arith) (λ c. omega arith) (λ c. omega arith) (λ c. omega arith)
     (λ c. omega arith) (λ c. omega arith) (λ c. search rules) (λ c. omega arith) (λ c. omega arith) (λ c. omega arith) loop_again

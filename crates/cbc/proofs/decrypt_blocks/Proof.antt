@@ -20,6 +20,6 @@ returns c =
 
 pub decrypt_blocks_spec : {M : Type 1} → statement M
 decrypt_blocks_spec = tie.close (tie.spec (λ c. search rules)
-    (λ c. let done = c.before.before.decrypt_batches-at.ensures in (done.1.within, done.0)) (λ c. omega arith) (λ c. omega arith)
+    (λ c. let done = c.decrypt_batches-at.ensures in (done.1.within, done.0)) (λ c. omega arith) (λ c. omega arith)
     (λ c. omega arith) (λ c. omega arith) (λ c. omega arith) (λ c. omega arith) (λ c. (search rules, omega arith)) (λ c. omega arith)
     returns)

@@ -15,11 +15,11 @@ decreases_loop t back d out₀ s₀ at₀ out s at = length d - at
 loop_again : tie.Need-loop-at-preserved invariant_loop decreases_loop
 loop_again c =
     let at-step = c.before.before in
-    let l = at-step.before.before.before.before.loop-at in
+    let l = at-step.loop-at in
     reached-next _ _ _ _ _ _ _ l.invariant _ _ (omega arith) (omega arith) (decrypt-block _ _ _ (length-unwords l.s))
     at-step.decrypt_step-next.ensures.0 at-step.decrypt_step-next.ensures.1
 
 pub decrypt_one_by_one_spec : {M : Type 1} → statement M
 decrypt_one_by_one_spec = tie.close (tie.spec invariant_loop decreases_loop (λ c. reached-first _ _ _ _) (λ c. omega arith) (λ c. omega arith)
     (λ c. omega arith) (λ c. omega arith) (λ c. omega arith) (λ c. omega arith) (λ c. omega arith) (λ c. search rules) (λ c. omega arith)
-    (λ c. omega arith) loop_again (λ c. omega arith) (λ c. walk-ended c.before.loop-at.invariant (omega arith) refl))
+    (λ c. omega arith) loop_again (λ c. omega arith) (λ c. walk-ended c.loop-at.invariant (omega arith) refl))

@@ -18,7 +18,7 @@ loop_again c =
     let at-few = c.before.before.before in
     let at-next-few = at-few.before.before.before in
     let at_loop = at-next-few.before.before in
-    let a = at_loop.before.before.before.args in
+    let a = at_loop.args in
     let l = at_loop.loop-at in
     let d = a.«data».now in
     let n = at-next-few.next_few-m.result in
@@ -35,4 +35,4 @@ pub decrypt_side_by_side_spec : {M : Type 1} → statement M
 decrypt_side_by_side_spec = tie.close (tie.spec invariant_loop decreases_loop (λ c. (reached-first _ _ _ _, refl)) (λ c. omega arith) (λ c. omega arith)
     (λ c. omega arith) (λ c. omega arith) (λ c. omega arith) (λ c. omega arith) (λ c. omega arith) (λ c. omega arith) (λ c. omega arith)
     (λ c. (omega arith, omega arith, omega arith)) (λ c. omega arith) (λ c. omega arith) (λ c. (omega arith, omega arith))
-    (λ c. omega arith) loop_again (λ c. omega arith) (λ c. walk-ended c.before.loop-at.invariant.0 (omega arith) refl))
+    (λ c. omega arith) loop_again (λ c. omega arith) (λ c. walk-ended c.loop-at.invariant.0 (omega arith) refl))

@@ -26,7 +26,7 @@ returns c =
     rw (at-pad.pad-last.ensures, tail_is (padded d) at) (rest-padded d at (omega arith) (omega arith) (omega arith)) in
     let stepped = rw block at at-step.encrypt_step.ensures in
     let inside : at + 16 ≤ length (padded d) = omega (arith, length-padded d) in
-    let room : at + 16 ≤ length o = omega (arith, S.requires, at-pad.before.before.before.out-1, at-blocks.encrypt_blocks-s) in
+    let room : at + 16 ≤ length o = omega (arith, S.requires, at-pad.out-1, at-blocks.encrypt_blocks-s) in
     let begun =
     blocks-reached a.rk (unwords a.iv) s d (a.out-1.now) o at (omega arith) (omega (arith, S.requires)) (omega arith) front.0
     front.1 in

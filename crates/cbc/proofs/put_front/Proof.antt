@@ -10,12 +10,12 @@ abbrev decreases_loop : tie.decreases-loop-i
 decreases_loop n out₀ b i₀ out i = n - i
 
 loop_again : tie.Need-loop-i-preserved invariant_loop decreases_loop
-loop_again c = (omega arith, simp length-set (omega arith), copy_turn _ _ _ _ c.before.loop-i.invariant.2 (omega arith) (omega arith))
+loop_again c = (omega arith, simp length-set (omega arith), copy_turn _ _ _ _ c.loop-i.invariant.2 (omega arith) (omega arith))
 
 returns : tie.Need-returns invariant_loop decreases_loop
 returns c =
     let l = c.before in
-    let e : l.loop-i.i ≡ l.before.args.n = omega arith in
+    let e : l.loop-i.i ≡ l.args.n = omega arith in
     l.loop-i.invariant.2 ∙ rw e
 
 pub put_front_spec : {M : Type 1} → statement M

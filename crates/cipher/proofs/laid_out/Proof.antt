@@ -7,7 +7,7 @@ use Rattle.cipher.proofs.laid_out.Tie as tie
 pub laid_out_spec : {M : Type 1} → statement M
 laid_out_spec = tie.close (tie.spec (λ c. search rules)
     (λ c. let e = c.tables.ensures in
-    laid _ _ _ (table-four _ c.before.if-engine-eq-FOUR_TABLES.true) (mixed-length _ e) (rw e (take-length mixed_table)))
-    (λ c. laid _ _ _ (table_none _ c.before.if-engine-eq-FOUR_TABLES.false c.if-engine-eq-GATES.true) (search rules) refl) (λ c. search rules)
-    (λ c. laid _ _ _ (table-plain _ c.before.before.if-engine-eq-FOUR_TABLES.false c.before.if-engine-eq-GATES.false) (search rules)
+    laid _ _ _ (table-four _ c.if-engine-eq-FOUR_TABLES.true) (mixed-length _ e) (rw e (take-length mixed_table)))
+    (λ c. laid _ _ _ (table_none _ c.if-engine-eq-FOUR_TABLES.false c.if-engine-eq-GATES.true) (search rules) refl) (λ c. search rules)
+    (λ c. laid _ _ _ (table-plain _ c.if-engine-eq-FOUR_TABLES.false c.if-engine-eq-GATES.false) (search rules)
     (rw length-sbox c.plain.ensures)))

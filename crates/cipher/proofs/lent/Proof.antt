@@ -6,9 +6,9 @@ use Rattle.cipher.proofs.lent.Tie as tie
 
 pub lent_spec : {M : Type 1} → statement M
 lent_spec = tie.close (tie.spec (λ c. search rules) (λ c. search rules) (λ c. search rules)
-    (λ c. lends _ 1024 _ c.before.before.requires (rw (table-four _ c.before.if-engine-eq-FOUR_TABLES.true) length-mixed)) (λ c. search rules)
+    (λ c. lends _ 1024 _ c.requires (rw (table-four _ c.if-engine-eq-FOUR_TABLES.true) length-mixed)) (λ c. search rules)
     (λ c. search rules) (λ c. search rules)
-    (λ c. lends _ 0 _ c.before.before.before.requires (rw (table_none _ c.before.before.if-engine-eq-FOUR_TABLES.false c.before.if-engine-eq-GATES.true) refl))
+    (λ c. lends _ 0 _ c.requires (rw (table_none _ c.if-engine-eq-FOUR_TABLES.false c.if-engine-eq-GATES.true) refl))
     (λ c. search rules) (λ c. search rules) (λ c. search rules)
-    (λ c. lends _ 256 _ c.before.before.before.requires
-    (rw (table-plain _ c.before.before.if-engine-eq-FOUR_TABLES.false c.before.if-engine-eq-GATES.false) length-sbox)))
+    (λ c. lends _ 256 _ c.requires
+    (rw (table-plain _ c.if-engine-eq-FOUR_TABLES.false c.if-engine-eq-GATES.false) length-sbox)))

@@ -18,15 +18,15 @@ loop_holds c = (refl, search rules, refl, refl)
 
 cast_wide : tie.Need-overflow-cast-wide invariant_loop decreases_loop
 unfolding sbox_table
-cast_wide c = record { fits = omega (arith, sbox-byte c.before.loop-i.i (omega arith)) }
+cast_wide c = record { fits = omega (arith, sbox-byte c.loop-i.i (omega arith)) }
 
 loop_again : tie.Need-loop-i-preserved invariant_loop decreases_loop
 loop_again c =
-    let l = c.before.loop-i in
+    let l = c.loop-i in
     let n = plain-length _ l.invariant.0 in
     (l.invariant.0, omega arith, search rules, laid_more _ l.wide l.i (omega arith) (omega arith) l.invariant.3)
 
 pub plain_spec : {M : Type 1} → statement M
 plain_spec = tie.close (tie.spec invariant_loop decreases_loop loop_holds (λ c. search rules) cast_wide (λ c. search rules) (λ c. search rules)
     (λ c. search rules)
-    (λ c. search rules) loop_again (λ c. let l = c.before.loop-i in laid_front _ l.wide l.i l.invariant.0 (omega arith) l.invariant.3))
+    (λ c. search rules) loop_again (λ c. let l = c.loop-i in laid_front _ l.wide l.i l.invariant.0 (omega arith) l.invariant.3))

@@ -6,4 +6,4 @@ use Rattle.cipher_mode.proofs.engine_for.Tie as tie
 
 pub engine_for_spec : {M : Type 1} → statement M
 engine_for_spec = tie.close (tie.spec (λ c. search rules) (λ c. search rules)
-    (λ c. c.engine_of.ensures ∙ ap (chosen c.before.before.args.mark) c.before.waits.ensures))
+    (λ c. c.engine_of.ensures ∙ ap (chosen c.args.mark) c.waits.ensures))

@@ -8,4 +8,4 @@ pub mode_of_spec : {M : Type 1} → statement M
 unfolding mode_of
 mode_of_spec = tie.close (tie.spec (λ c. rw c.in_default.keys1) (λ c. rw c.in_default.keys2) (λ c. rw c.in_default.keys3)
     (λ c. rw c.in_default.keys4)
-    (λ c. let n = c.before.args.mode in let above : n ≡ suc (suc (suc (suc (n - 4)))) = omega arith in rw above))
+    (λ c. let n = c.args.mode in let above : n ≡ suc (suc (suc (suc (n - 4)))) = omega arith in rw above))

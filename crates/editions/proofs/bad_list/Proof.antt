@@ -7,4 +7,4 @@ use Rattle.editions.proofs.bad_list.Tie as tie
 pub bad_list_spec : {M : Type 1} → statement M
 unfolding bad_list
 bad_list_spec = tie.close (tie.spec (λ c. rw (lt-ltb _ _ c.if-lengths-gt-MOST.true)) (λ c. search rules)
-    (λ c. rw (le-ltb _ _ c.before.if-lengths-gt-MOST.false, c.add_up.ensures)))
+    (λ c. rw (le-ltb _ _ c.if-lengths-gt-MOST.false, c.add_up.ensures)))

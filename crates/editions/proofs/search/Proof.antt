@@ -23,9 +23,9 @@ decreases_loop mask h half key file labels lengths start₀ i₀ start i = lengt
 
 -- a candidate ends within the buffer
 room : (x : tie.In-loop-i invariant_loop decreases_loop)
-    → let a = x.before.before.before.before.before.args in
-    x.before.loop-i.start + get_or (a.lengths.now) x.before.loop-i.i 0 ≤ length (a.labels.now)
-room x = omega (arith, sum_turn (x.before.before.before.before.before.args.lengths.now) x.before.loop-i.i (omega arith))
+    → let a = x.args in
+    x.loop-i.start + get_or (a.lengths.now) x.loop-i.i 0 ≤ length (a.labels.now)
+room x = omega (arith, sum_turn (x.args.lengths.now) x.loop-i.i (omega arith))
 
 opens-after_requires : tie.Need-opens_after-requires invariant_loop decreases_loop
 opens-after_requires c =
@@ -39,22 +39,22 @@ returns : tie.Need-returns-then-opens_after invariant_loop decreases_loop
 returns c =
     let at_loop = c.before.before.before.before.before in
     let l = at_loop.loop-i in
-    let ns = at_loop.before.before.before.before.args.lengths.now in
-    ap (on_key _) (rw c.if-opens_after.true at (search_turn ns l.i (omega arith) _ _ _ _ _ l.invariant.3 c.before.opens_after.ensures))
+    let ns = at_loop.args.lengths.now in
+    ap (on_key _) (rw c.if-opens_after.true at (search_turn ns l.i (omega arith) _ _ _ _ _ l.invariant.3 c.opens_after.ensures))
 
 loop_again : tie.Need-loop-i-preserved invariant_loop decreases_loop
 loop_again c =
     let at_loop = c.before.before.before.before.before in
     let l = at_loop.loop-i in
-    let ns = at_loop.before.before.before.before.args.lengths.now in
+    let ns = at_loop.args.lengths.now in
     let turn = sum_turn ns l.i (omega arith) in
     let short = short_turn ns l.i (omega arith) l.invariant.2 in
-    let found = search_turn ns l.i (omega arith) _ _ _ _ _ l.invariant.3 c.before.opens_after.ensures in
+    let found = search_turn ns l.i (omega arith) _ _ _ _ _ l.invariant.3 c.opens_after.ensures in
     (omega arith, omega arith, short.1, rw c.if-opens_after.false at found)
 
 returns_2 : tie.Need-returns invariant_loop decreases_loop
 returns_2 c =
-    let l = c.before.before.loop-i in
+    let l = c.loop-i in
     rw c.without.ensures (ap (on_key _) (search-end _ l.i (omega arith) _ _ l.start _ l.invariant.3))
 
 pub search_spec : {M : Type 1} → statement M

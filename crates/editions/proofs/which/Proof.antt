@@ -7,9 +7,9 @@ use Rattle.editions.proofs.which.Statement.{statement}
 use Rattle.editions.proofs.which.Tie as tie
 
 list_stands : (x : tie.Else-bad_list)
-    → let a = x.before.before.before.before.before.before.args in
+    → let a = x.args in
     bad_list (a.labels.now) (a.lengths.now) ≡ false
-list_stands x = sym x.before.bad_list.ensures ∙ x.if-bad_list.false
+list_stands x = sym x.bad_list.ensures ∙ x.if-bad_list.false
 
 returns_2 : tie.Need-returns-in-Refused
 unfolding which
@@ -39,5 +39,5 @@ returns_3 c =
 pub which_spec : {M : Type 1} → statement M
 unfolding which
 which_spec = tie.close (tie.spec (λ c. search rules) (λ c. search rules)
-    (λ c. rw (← c.before.before.bad_list.ensures, c.before.if-bad_list.true, c.without.ensures)) (λ c. search rules) (λ c. search rules)
+    (λ c. rw (← c.bad_list.ensures, c.if-bad_list.true, c.without.ensures)) (λ c. search rules) (λ c. search rules)
     (λ c. search rules) (λ c. search rules) returns_2 (λ c. search rules) under-key_requires returns_3)

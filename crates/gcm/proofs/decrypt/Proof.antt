@@ -9,7 +9,7 @@ use Rattle.gcm.proofs.decrypt.Tie as tie
 
 decrypt-short_requires : tie.Need-decrypt_short-requires
 decrypt-short_requires c =
-    let room = (c.before.before.before.before.before.before.before.requires.1.0 c.before.if-ready.true).room in
+    let room = (c.requires.1.0 c.if-ready.true).room in
     (search rules, (omega arith, omega arith, omega arith))
 
 returns : tie.Need-returns-then-ready
@@ -21,9 +21,9 @@ returns c =
 
 stream_requires : tie.Need-stream-requires
 stream_requires c =
-    let d = c.before.before.before.before.before.before.before.before.before.before.before.before.args.«data».now in
-    let n : length (c.before.text_part.result.now) ≡ length d - 16 =
-    ap length c.before.text_part.ensures ∙ length-take-le (length d - 16) d (omega arith) in
+    let d = c.args.«data».now in
+    let n : length (c.text_part.result.now) ≡ length d - 16 =
+    ap length c.text_part.ensures ∙ length-take-le (length d - 16) d (omega arith) in
     (search rules, omega arith)
 
 returns_2 : tie.Need-returns-then-opens
@@ -33,7 +33,7 @@ returns_2 c =
     let at-add-one = at-text-part.before.before in
     let at-if2 = at-add-one.before in
     let at-opens = at-if2.before in
-    let a = at-opens.before.before.before.before.before.before.before.args in
+    let a = at-opens.args in
     let d = a.«data».now in
     let j = unwords a.j0 in
     let opens = sym at-opens.opens.ensures ∙ at-if2.if-opens.true in
@@ -46,8 +46,8 @@ returns_2 c =
 
 returns_3 : tie.Need-returns
 returns_3 c =
-    let a = c.before.before.before.before.before.before.before.before.args in
-    let closed = sym c.before.opens.ensures ∙ c.if-opens.false in
+    let a = c.args in
+    let closed = sym c.opens.ensures ∙ c.if-opens.false in
     (sym closed, into_refused a.rk (value a.h) (unwords a.j0) (a.aad.now) (a.«data».now) (a.out-1.now) closed)
 
 pub decrypt_spec : {M : Type 1} → statement M

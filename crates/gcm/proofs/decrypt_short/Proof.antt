@@ -8,14 +8,14 @@ use Rattle.gcm.proofs.decrypt_short.Statement.{statement}
 use Rattle.gcm.proofs.decrypt_short.Tie as tie
 
 -- how long the text is
-text-long : (x : tie.After-text_part-text) → let d = x.before.before.before.before.before.args.«data».now in
+text-long : (x : tie.After-text_part-text) → let d = x.args.«data».now in
     length (x.text_part-text.result.now) ≡ length d - 16
 text-long x =
-    let d = x.before.before.before.before.before.args.«data».now in
+    let d = x.args.«data».now in
     ap length x.text_part-text.ensures ∙ length-take-le (length d - 16) d (omega arith)
 
 -- whether the tag is right, by the mask that stands ready
-told : (x : tie.After-has_tag) → let a = x.before.before.before.before.before.before.before.before.before.args in
+told : (x : tie.After-has_tag) → let a = x.args in
     (rk j : List ℕ) → PadsFor rk j (length (a.«data».now) - 16) (a.pads.now)
     → x.has_tag.result ≡ opens_under rk (value a.h) j (a.aad.now) (a.«data».now)
 unfolding opens_under tag_of
@@ -24,7 +24,7 @@ told x rk j p =
     let at_split = at-masked-tag.before in
     let at-text = at_split.before.before in
     let known = at-text.before.before.before.before in
-    let a = known.before.args in
+    let a = known.args in
     let pads = a.pads.now in
     let small : (i : ℕ) → get_or pads i 0 < 256 = λ i. omega (arith, known.shared_slice_known-1.given i) in
     let mask : unwords at_split.split_block-mask.result ≡ encrypt_block rk j =
@@ -35,7 +35,7 @@ told x rk j p =
 xor-bytes_requires : tie.Need-xor_bytes-requires
 xor-bytes_requires c =
     let at-text = c.before.before.before.before.before.before.before in
-    let k = length_tailed at-text.before.before.before.before.before.args.pads.now 32 in
+    let k = length_tailed at-text.args.pads.now 32 in
     (omega (arith, text-long at-text), omega (arith, text-long at-text))
 
 returns : tie.Need-returns-then-has_tag
@@ -43,7 +43,7 @@ returns c =
     let at-xor-bytes = c.before.before in
     let at-if1 = at-xor-bytes.before.before.before in
     let at-text = at-if1.before.before.before.before.before in
-    let a = at-text.before.before.before.before.before.args in
+    let a = at-text.args in
     λ rk j p.
     let d = a.«data».now in
     let o = a.out-1.now in
@@ -57,7 +57,7 @@ returns c =
 
 returns_2 : tie.Need-returns
 returns_2 c =
-    let a = c.before.before.before.before.before.before.before.before.before.before.args in
+    let a = c.args in
     λ rk j p.
     let closed = sym (told c.before rk j p) ∙ c.if-has_tag.false in
     (sym closed, into_refused rk (value a.h) j (a.aad.now) (a.«data».now) (a.out-1.now) closed)

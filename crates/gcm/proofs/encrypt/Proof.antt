@@ -8,7 +8,7 @@ use Rattle.gcm.proofs.encrypt.Tie as tie
 encrypt-short_requires : tie.Need-encrypt_short-requires
 encrypt-short_requires c =
     let S = c.before.before.before.before.before.before.before in
-    ((S.requires.1.0 c.before.if-ready.true).room, (search rules, search rules))
+    ((S.requires.1.0 c.if-ready.true).room, (search rules, search rules))
 
 returns : tie.Need-returns-then-ready
 returns c =
@@ -23,7 +23,7 @@ returns_2 c =
     let at_tag = at-put-block.before.before in
     let at-stream = at_tag.before.before.before.before.before in
     let at-add-one = at-stream.before.before.before in
-    let a = at-add-one.before.before.before.before.before.before.before.args in
+    let a = at-add-one.args in
     let text = text-words a.rk _ _ (a.«data».now) at-add-one.gcm_block_add_one.ensures.0 in
     sealed-written a.rk (value a.h) (unwords a.j0) (a.aad.now) _ (a.out-1.now) _ _ _
     (at-stream.stream.ensures.1.1 ∙ ap (λ (q : List ℕ). over q (a.out-1.now)) text) at_tag.tag-mac.ensures

@@ -14,7 +14,7 @@ returns c =
     let at-xor-bytes = at-masked-tag.before.before.before.before.before in
     let at_split = at-xor-bytes.before.before.before in
     let known = at_split.before.before.before.before.before in
-    let a = known.before.args in
+    let a = known.args in
     λ rk j p.
     let pads = a.pads.now in
     let h = value a.h in

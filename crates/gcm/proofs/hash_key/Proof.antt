@@ -6,4 +6,4 @@ use Rattle.gcm.proofs.hash_key.Tie as tie
 
 pub hash_key_spec : {M : Type 1} → statement M
 hash_key_spec = tie.close (tie.spec (λ c. search rules) (λ c. search rules)
-    (λ c. hash-key-words c.before.before.before.args.rk _ _ c.before.encrypt.ensures c.to_u128.ensures))
+    (λ c. hash-key-words c.args.rk _ _ c.encrypt.ensures c.to_u128.ensures))

@@ -7,7 +7,7 @@ use Rattle.gcm.proofs.hashed_counter.Tie as tie
 returns : tie.Need-returns
 returns c =
     let S = c.before.before.before.before in
-    hashed_counter_words (value S.args.h) _ (S.args.iv.now) _ S.requires c.before.galois_hash.ensures c.from_u128.ensures
+    hashed_counter_words (value S.args.h) _ (S.args.iv.now) _ S.requires c.galois_hash.ensures c.from_u128.ensures
 
 pub hashed_counter_spec : {M : Type 1} → statement M
 hashed_counter_spec =

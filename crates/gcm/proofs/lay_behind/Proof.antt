@@ -5,9 +5,9 @@ use Rattle.gcm.proofs.lay_behind.Tie as tie
 
 returns : tie.Need-returns
 returns c =
-    let a = c.before.before.before.before.before.args in
+    let a = c.args in
     let o = a.out-1.now in
-    returned_is o _ 16 ∙ ap (λ (t : List ℕ). take 16 o ++ t) (c.before.before.lay_counters.ensures
+    returned_is o _ 16 ∙ ap (λ (t : List ℕ). take 16 o ++ t) (c.lay_counters.ensures
     ∙ ap (λ (x : List ℕ). over (cat a.m (jumped false (unwords a.j0))) x) (tail_is o 16))
 
 pub lay_behind_spec : {M : Type 1} → statement M

@@ -11,7 +11,7 @@ returns c =
     let mask = S.well-formed.0 in
     let four : length a.mask ≡ 4 = search (rules, mask) in
     masked-words a.mask (a.aad.now) (a.text.now) _ _ (value a.h) _ four
-    c.before.before.galois_hash.ensures c.before.from_u128-hash.ensures c.block_xor.ensures
+    c.galois_hash.ensures c.from_u128-hash.ensures c.block_xor.ensures
 
 pub masked_tag_spec : {M : Type 1} → statement M
 masked_tag_spec = tie.close (tie.spec (λ c. search rules) (λ c. search rules) (λ c. search rules) returns)

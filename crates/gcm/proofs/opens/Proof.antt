@@ -6,7 +6,7 @@ use Rattle.gcm.proofs.opens.Tie as tie
 
 tag_requires : tie.Need-tag-requires
 tag_requires c =
-    let d = c.before.before.before.before.args.«data».now in
+    let d = c.args.«data».now in
     let n : length (c.text_part.result.now) ≡ length d - 16 =
     ap length c.text_part.ensures ∙ length-take-le (length d - 16) d (omega arith) in
     (search rules, (search rules, omega arith))
@@ -16,7 +16,7 @@ unfolding opens_under
 returns c =
     let at_tag = c.before in
     let at-text-part = at_tag.before in
-    let a = at-text-part.before.before.before.before.args in
+    let a = at-text-part.args in
     let tag = tag_of a.rk (value a.h) (unwords a.j0) (a.aad.now) in
     c.has_tag.ensures ∙ ap (same (tag_part (a.«data».now))) (at_tag.tag.ensures ∙ ap tag at-text-part.text_part.ensures)
 

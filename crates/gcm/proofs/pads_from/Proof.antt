@@ -12,7 +12,7 @@ returns c =
     let m = a.n / 16 + 2 in
     pads_ready a.rk (unwords a.j0) (length-unwords a.j0) (unwords-bytes a.j0) m (m + 1) _ _ (replicate 512 0) _
     at-lay-behind.lay_behind.ensures
-    c.before.encrypt.ensures refl (omega arith) a.n (omega arith) (search rules) (omega arith)
+    c.encrypt.ensures refl (omega arith) a.n (omega arith) (search rules) (omega arith)
 
 pub pads_from_spec : {M : Type 1} → statement M
 pads_from_spec = tie.close (tie.spec (λ c. search rules) (λ c. search rules) (λ c. search rules) (λ c. search rules) (λ c. search rules)

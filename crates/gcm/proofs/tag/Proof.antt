@@ -13,7 +13,7 @@ returns c =
     let four : length a.j0 ≡ 4 = search (rules, counter) in
     let fits : (i : ℕ) → Fits w32 (get_or a.j0 i 0) = λ i. search (rules, counter) in
     c.masked_tag.ensures ∙ ap (λ (m : List ℕ). masked_tag m (value a.h) (a.aad.now) (a.text.now))
-    (ap unwords c.before.encrypt-mask.ensures ∙ encrypt-unwords a.rk a.j0 four (below_each (2 ^ 32) a.j0 (λ i. (fits i).fits)))
+    (ap unwords c.encrypt-mask.ensures ∙ encrypt-unwords a.rk a.j0 four (below_each (2 ^ 32) a.j0 (λ i. (fits i).fits)))
 
 pub tag_spec : {M : Type 1} → statement M
 tag_spec = tie.close (tie.spec (λ c. search rules) (λ c. search rules) returns)

@@ -5,4 +5,4 @@ use Rattle.gcm.proofs.tag_part.Tie as tie
 
 pub tag_part_spec : {M : Type 1} → statement M
 tag_part_spec = tie.close (tie.spec (λ c. search rules) (λ c. search rules) (λ c. search rules) (λ c. search rules)
-    (λ c. let d = c.before.args.«data».now in tail_is d (length d - 16)))
+    (λ c. let d = c.args.«data».now in tail_is d (length d - 16)))

@@ -21,9 +21,9 @@ decreases_loop keys journal report₀ t₀ place₀ report t place = length t
 
 loop_holds : tie.Need-loop-t-init invariant_loop decreases_loop
 loop_holds c =
-    let n = c.before.before.nothing-report.ensures in
-    let a = c.before.before.before.before.args in
-    let good = sym c.before.bad.ensures ∙ c.if-bad.false in (
+    let n = c.nothing-report.ensures in
+    let a = c.args in
+    let good = sym c.bad.ensures ∙ c.if-bad.false in (
       few-keys _ good,
       rw n within-nothing,
       omega arith,
@@ -36,7 +36,7 @@ module _ (x : tie.After-number invariant_loop decreases_loop) where
   at_loop = x.before.before.before
 
   abbrev ks : List Sm4Cipher
-  ks = keys_in at_loop.before.before.before.before.before.args.keys
+  ks = keys_in at_loop.args.keys
 
   abbrev here : List ℕ
   here = at_loop.loop-t.t.now
@@ -47,7 +47,7 @@ module _ (x : tie.After-number invariant_loop decreases_loop) where
 returns_2 : tie.Need-returns-then-number-ne0 invariant_loop decreases_loop
 returns_2 c =
     let x = c.before in
-    x.before.replay_one-one.ensures ∙ sym (from_stop (ks x) (here x) _ _ (omega arith) (λ z. c.if-number-ne0.true (number_is x ∙ z)))
+    x.replay_one-one.ensures ∙ sym (from_stop (ks x) (here x) _ _ (omega arith) (λ z. c.if-number-ne0.true (number_is x ∙ z)))
     ∙ (at_loop x).loop-t.invariant.3
 
 -- it was counted
@@ -56,7 +56,7 @@ module _ (c : tie.After-measure-n invariant_loop decreases_loop) where
   numbered = c.before.before.before
 
   passes : Passes (ks numbered) (here numbered)
-  passes = passed _ _ _ _ (sym (number_is numbered) ∙ c.before.before.if-number-ne0.false)
+  passes = passed _ _ _ _ (sym (number_is numbered) ∙ c.if-number-ne0.false)
 
   size : (0 < c.measure-n.result) × (c.measure-n.result ≤ length (here numbered))
   size =
@@ -69,7 +69,7 @@ loop_again c =
     let x = numbered m in
     let l = (at_loop x).loop-t in
     let next = c.skip-next.ensures in
-    let told = x.before.replay_one-one.ensures in (
+    let told = x.replay_one-one.ensures in (
       l.invariant.0,
       turn_within (ks x) (here x) l.place l.report-1 _ _ m.measure-n.ensures told (passes m) l.invariant.1,
       omega (arith, size m, ap length next, length-drop m.measure-n.result (here x), l.invariant.2),
@@ -79,10 +79,10 @@ loop_again c =
 pub replay_spec : {M : Type 1} → statement M
 replay_spec =
     tie.close (tie.spec invariant_loop decreases_loop (λ c. search rules) (λ c. search rules)
-    (λ c. unfold replay in rw (sym c.before.bad.ensures ∙ c.if-bad.true, c.before.before.nothing-report.ensures)) loop_holds
-    (λ c. let inv = c.before.loop-t.invariant in (inv.0, (inv.1, omega (arith, inv.2)))) (λ c. search rules) returns_2
+    (λ c. unfold replay in rw (sym c.bad.ensures ∙ c.if-bad.true, c.nothing-report.ensures)) loop_holds
+    (λ c. let inv = c.loop-t.invariant in (inv.0, (inv.1, omega (arith, inv.2)))) (λ c. search rules) returns_2
     (λ c. search rules) (λ c. (size c).1)
     (λ c. omega (arith, size c.before, (at_loop (numbered c.before)).loop-t.invariant.2))
     (λ c. let m = c.before in omega (arith, size m, ap length c.skip-next.ensures, length-drop m.measure-n.result (here (numbered m))))
     loop_again
-    (λ c. let l = c.before.loop-t in sym (from_end _ (l.t.now) l.place l.report-1 (omega arith)) ∙ l.invariant.3))
+    (λ c. let l = c.loop-t in sym (from_end _ (l.t.now) l.place l.report-1 (omega arith)) ∙ l.invariant.3))

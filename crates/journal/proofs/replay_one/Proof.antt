@@ -6,11 +6,11 @@ use Rattle.journal.proofs.Replaying.{refuses, counts}
 use Rattle.journal.proofs.replay_one.Statement.{statement}
 use Rattle.journal.proofs.replay_one.Tie as tie
 
-starts : (x : tie.Else-measure-eq0) → starts_record (x.before.before.before.args.s.now) ≡ true
-starts x = size-some _ (λ z. x.if-measure-eq0.false (x.before.measure.ensures ∙ z))
+starts : (x : tie.Else-measure-eq0) → starts_record (x.args.s.now) ≡ true
+starts x = size-some _ (λ z. x.if-measure-eq0.false (x.measure.ensures ∙ z))
 
-short : (x : tie.Else-too_long) → too_long (front (x.before.before.before.before.before.args.s.now)) ≡ false
-short x = sym x.before.too_long.ensures ∙ x.if-too_long.false
+short : (x : tie.Else-too_long) → too_long (front (x.args.s.now)) ≡ false
+short x = sym x.too_long.ensures ∙ x.if-too_long.false
 
 -- the key that is sought
 module _ (x : tie.After-find-i) where
@@ -31,9 +31,9 @@ module _ (x : tie.After-find-i) where
 pub replay_one_spec : {M : Type 1} → statement M
 replay_one_spec =
     tie.close (tie.spec (λ c. search rules)
-    (λ c. sym (refuses _ _ _ _ BadRecord (size-zero _ (sym c.before.measure.ensures ∙ c.if-measure-eq0.true))).0)
+    (λ c. sym (refuses _ _ _ _ BadRecord (size-zero _ (sym c.measure.ensures ∙ c.if-measure-eq0.true))).0)
     (λ c. stands _ (starts c))
-    (λ c. sym (refuses _ _ _ _ TooLong (starts c.before.before, sym c.before.too_long.ensures ∙ c.if-too_long.true)).0)
+    (λ c. sym (refuses _ _ _ _ TooLong (starts c.before.before, sym c.too_long.ensures ∙ c.if-too_long.true)).0)
     (λ c. stands _ (starts c.before.before)) (λ c. search rules)
     (λ c.
     let x = c.before.before in
@@ -46,5 +46,5 @@ replay_one_spec =
     let k = c.before.before in
     let x = k.before.before.before in
     let else2 = x.before.before in
-    rw (c.counted.ensures, c.before.recompute-recomputed.ensures.0, k.at.ensures.0, place_is x)
-    (counts _ _ _ _ (starts else2.before.before, short else2, has x ∙ lt-ltb _ _ k.before.if-i-keys.false))))
+    rw (c.counted.ensures, c.recompute-recomputed.ensures.0, k.at.ensures.0, place_is x)
+    (counts _ _ _ _ (starts else2.before.before, short else2, has x ∙ lt-ltb _ _ k.if-i-keys.false))))

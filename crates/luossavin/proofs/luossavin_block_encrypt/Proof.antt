@@ -9,7 +9,7 @@ returns : tie.Need-returns
 unfolding host_block_call
 returns c =
     let at_call = c.before.before.before in
-    told c.report.ensures (rw (← at_call.before.before.cipher_of.ensures) at_call.call.ensures)
+    told c.report.ensures (rw (← at_call.cipher_of.ensures) at_call.call.ensures)
 
 pub luossavin_block_encrypt_spec : {M : Type 1} → statement M
 luossavin_block_encrypt_spec =

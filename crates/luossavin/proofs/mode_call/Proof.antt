@@ -10,14 +10,14 @@ unfolding host_mode_call
 returns c =
     let at_call = c.before.before.before in
     let at-mode = at_call.before.before in
-    let a = at-mode.before.before.before.before.before.before.args in
+    let a = at-mode.args in
     rw (le-ltb 4 a.mode (omega arith))
     (told c.report.ensures (rw (← at-mode.mode_in.ensures) at_call.call.ensures))
 
 returns_2 : tie.Need-returns-in_default
 unfolding host_mode_call
 returns_2 c =
-    let a = c.before.before.before.before.before.before.args in
+    let a = c.args in
     rw (lt-ltb 4 a.mode (omega arith)) (told c.numbered.ensures refl)
 
 pub mode_call_spec : {M : Type 1} → statement M

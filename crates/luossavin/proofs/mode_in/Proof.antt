@@ -5,4 +5,4 @@ use Rattle.luossavin.proofs.mode_in.Tie as tie
 
 pub mode_in_spec : {M : Type 1} → statement M
 mode_in_spec =
-    tie.close (tie.spec (λ c. search rules) (λ c. search rules) (λ c. rw (c.before.cipher_of.ensures, c.mode_of.ensures)))
+    tie.close (tie.spec (λ c. search rules) (λ c. search rules) (λ c. rw (c.cipher_of.ensures, c.mode_of.ensures)))

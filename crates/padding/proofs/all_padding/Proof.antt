@@ -14,26 +14,26 @@ decreases_loop n last differ₀ i₀ differ i = 16 - i
 
 -- what a turn adds
 small : (c : tie.In-loop-i invariant_loop decreases_loop)
-    → difference c.before.before.args.n c.before.loop-i.i (get_or c.before.before.args.last c.before.loop-i.i 0) ≤ 255
+    → difference c.args.n c.loop-i.i (get_or c.args.last c.loop-i.i 0) ≤ 255
 small c =
     let l = c.before in
-    let byte : Fits w8 (get_or l.before.args.last l.loop-i.i 0) = search rules in
-    difference_le l.before.args.n l.loop-i.i _ l.before.requires (omega arith) byte.fits
+    let byte : Fits w8 (get_or l.args.last l.loop-i.i 0) = search rules in
+    difference_le l.args.n l.loop-i.i _ l.requires (omega arith) byte.fits
 
 loop_again : tie.Need-loop-i-preserved invariant_loop decreases_loop
 loop_again c =
     let l = c.before in
-    let turn = difference_turn l.before.args.n l.loop-i.i l.before.args.last (omega arith) in
+    let turn = difference_turn l.args.n l.loop-i.i l.args.last (omega arith) in
     (omega arith, l.loop-i.invariant.1, omega (arith, small c), omega arith)
 
 returns : tie.Need-returns invariant_loop decreases_loop
 returns c =
     let l = c.before in
-    let n = l.before.args.n in
-    let last = l.before.args.last in
+    let n = l.args.n in
+    let last = l.args.last in
     let i : l.loop-i.i ≡ length last = omega arith in
     let e : l.loop-i.differ ≡ differences n 0 last = omega (arith, none_left n last, rw i at l.loop-i.invariant.3) in
-    rw e (padding_test n last l.before.requires l.loop-i.invariant.1)
+    rw e (padding_test n last l.requires l.loop-i.invariant.1)
 
 pub all_padding_spec : {M : Type 1} → statement M
 all_padding_spec = tie.close (tie.spec invariant_loop decreases_loop (λ c. (omega arith, search rules, omega arith, omega arith)) (λ c. omega arith)

@@ -15,7 +15,7 @@ decreases_loop rest last₀ i₀ last i = length rest - i
 loop_again : tie.Need-loop-i-preserved invariant_loop decreases_loop
 loop_again c =
     let l = c.before.before in
-    let d = l.before.args.rest.now in (
+    let d = l.args.rest.now in (
       omega arith,
       simp length-set (omega arith),
       copy_turn d (replicate 16 (16 - length d)) l.loop-i.last l.loop-i.i l.loop-i.invariant.2 (omega arith) (omega arith),
@@ -24,7 +24,7 @@ loop_again c =
 returns : tie.Need-returns invariant_loop decreases_loop
 returns c =
     let l = c.before in
-    pad-filled (l.before.args.rest.now) l.loop-i.last l.loop-i.i (omega arith) l.loop-i.invariant.2 (omega arith)
+    pad-filled (l.args.rest.now) l.loop-i.last l.loop-i.i (omega arith) l.loop-i.invariant.2 (omega arith)
 
 pub pad_spec : {M : Type 1} → statement M
 pad_spec = tie.close (tie.spec invariant_loop decreases_loop (λ c. omega arith) (λ c. omega arith) (λ c. (omega arith, refl, refl)) (λ c. omega arith)

@@ -21,6 +21,6 @@ load_spec = tie.close (tie.spec
     let src = S.args.src.now in
     let d = drop (16 * l.i) src in
     let k : length d ≤ length src - 16 * l.i = omega (arith, length-drop (16 * l.i) src) in
-    let e = c.before.split_block.ensures ∙ ap words (take_all (length src - 16 * l.i) d k) ∙ sym (words_take d) in
+    let e = c.split_block.ensures ∙ ap words (take_all (length src - 16 * l.i) d k) ∙ sym (words_take d) in
     (omega arith, c.put.ensures.0 (λ j. words (block_at src j)) l.invariant.1 (sym e)))
-    (λ c. let e : c.before.loop-i.i ≡ c.before.before.before.args.m = omega arith in rw e at c.before.loop-i.invariant.1))
+    (λ c. let e : c.loop-i.i ≡ c.args.m = omega arith in rw e at c.loop-i.invariant.1))

@@ -16,9 +16,9 @@ put_spec = tie.close (next8 tie.spec (omega arith)
     let x = a.t4 in
     let w : (i : ℕ) → Fits w32 (get_or x i 0) = λ i. search rules in
     let n : length x ≡ 4 = search rules in
-    let p = c.before.before.place_of-p in (
+    let p = c.place_of-p in (
       λ f R e.
           one_more_row f a.a.now a.b.now a.i p.result _ _ S.requires.0 p.ensures R
-          (rw e (record { four = n; small = below_each _ x (λ i. (w i).fits); high = c.before.half.ensures; low = c.half-2.ensures })),
+          (rw e (record { four = n; small = below_each _ x (λ i. (w i).fits); high = c.half.ensures; low = c.half-2.ensures })),
       search rules,
     )))

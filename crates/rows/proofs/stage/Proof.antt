@@ -10,12 +10,12 @@ pub stage_spec : {M : Type 1} → statement M
 stage_spec = tie.close (tie.spec
     (λ a₀ n w d m i₀ a i. (i ≤ n) × Staged d m w i a₀ a) (λ a₀ n w d m i₀ a i. n - i) (λ c. search rules) (λ c. search rules)
     (λ c.
-    let l = c.before.before.loop-i in
+    let l = c.loop-i in
     let S = c.before.before.before in
     record { fits = omega (arith, groups S.args.w l.i S.args.n (search rules), S.requires.1) })
     (λ c.
-    let l = c.before.before.loop-i in
+    let l = c.loop-i in
     let S = c.before.before.before in
     (l.invariant.1.size, omega (arith, groups S.args.w l.i S.args.n (search rules), S.requires.1), S.requires.3))
     (λ c. search rules) (λ c. search rules) (λ c. search (rules, staged_next))
-    (λ c. let e : c.before.loop-i.i ≡ c.before.before.args.n = omega arith in rw e at c.before.loop-i.invariant.1))
+    (λ c. let e : c.loop-i.i ≡ c.args.n = omega arith in rw e at c.loop-i.invariant.1))

@@ -23,15 +23,15 @@ store_xored_spec = tie.close (next16 (tie.spec
     let at_split = at_place.before in
     let at_loop = at_split.before.before.before in
     let l = at_loop.loop-i in
-    let a = at_loop.before.before.before.args in
+    let a = at_loop.args in
     let p = at_place.place_of-p in
     let x = at_split.split_block-x.result in
-    let high = at_first.before.before.half in
-    let low = at_second.before.before.half-in-loop-i in
+    let high = at_first.half in
+    let low = at_second.half-in-loop-i in
     let from = a.with.now in
     let d = drop (16 * l.i) from in
     let n = length-drop (16 * l.i) from in
-    let known : (i : ℕ) → Fits w8 (get_or from i 0) = λ i. at_loop.before.before.shared_slice_known-1.given i in
+    let known : (i : ℕ) → Fits w8 (get_or from i 0) = λ i. at_loop.shared_slice_known-1.given i in
     let w : (i : ℕ) → Fits w32 (get_or x i 0) = λ i. search rules in
     let e : x ≡ words d = at_split.split_block-x.ensures ∙ ap words (take_all (length from - 16 * l.i) d (omega arith)) in
     let r : Row x high.result low.result =
@@ -42,12 +42,12 @@ store_xored_spec = tie.close (next16 (tie.spec
     let stored =
     block-stored a.out-1.now l.out-1 at_first.put_half.new.0 at_second.put_half-in-loop-i.new.0 _ _
     (xored_row a.a.now a.b.now from) l.i
-    (λ i h. length_xored_row from a.m at_loop.before.before.before.requires.0.1 a.a.now a.b.now i (omega arith))
+    (λ i h. length_xored_row from a.m at_loop.requires.0.1 a.a.now a.b.now i (omega arith))
     xored l.invariant.2 at_first.put_half.ensures at_second.put_half-in-loop-i.ensures in
     (omega arith, search rules, stored))
     (λ c. search rules)
     (λ c.
-    let l = c.before.loop-i in
+    let l = c.loop-i in
     let S = c.before.before.before.before in
     let a = S.args in
     let e : l.i ≡ a.m = omega arith in

@@ -12,4 +12,4 @@ swap_bits_spec = tie.close (next16 (tie.spec
     (λ a₀ g w d m e₀ a e. (e ≤ w) × Swapped d m g w e a₀ a) (λ a₀ g w d m e₀ a e. w - e) (λ c. search rules)) (omega arith)
     (λ c. search rules) (λ c. search rules)
     (λ c. search (rules, swapped_next))
-    (λ c. let e : c.before.loop-e.e ≡ c.before.before.args.w = omega arith in rw e at c.before.loop-e.invariant.1))
+    (λ c. let e : c.loop-e.e ≡ c.args.w = omega arith in rw e at c.loop-e.invariant.1))

@@ -7,9 +7,9 @@ use Rattle.shelf.proofs.collect.Tie as tie
 pub collect_spec : {M : Type 1} → statement M
 unfolding collect_call
 collect_spec =
-    tie.close (tie.spec (λ c. search rules) (λ c. search rules) (λ c. rw (sym c.before.bad.ensures ∙ c.if-bad.true))
-    (λ c. (in_order _ _ (sym c.before.before.bad.ensures ∙ c.before.if-bad.false)).within) (λ c. search rules)
+    tie.close (tie.spec (λ c. search rules) (λ c. search rules) (λ c. rw (sym c.bad.ensures ∙ c.if-bad.true))
+    (λ c. (in_order _ _ (sym c.bad.ensures ∙ c.if-bad.false)).within) (λ c. search rules)
     (λ c.
     let k = c.before.before in
     let e = k.before.before in
-    rw (sym e.before.bad.ensures ∙ e.if-bad.false, k.keep-kept.ensures.0, k.keep-kept.ensures.1)))
+    rw (sym e.bad.ensures ∙ e.if-bad.false, k.keep-kept.ensures.0, k.keep-kept.ensures.1)))

@@ -7,13 +7,13 @@ pub part_spec : {M : Type 1} → statement M
 unfolding part_of
 part_spec =
     tie.close (tie.spec (λ c. search rules) (λ c. search rules) (λ c. search rules)
-    (λ c. let a = c.before.before.args in rw (lt-ltb (length (a.shelf.now)) (a.found.start + a.found.length) (omega arith)))
+    (λ c. let a = c.args in rw (lt-ltb (length (a.shelf.now)) (a.found.start + a.found.length) (omega arith)))
     (λ c. search rules) (λ c. search rules) (λ c. search rules) (λ c. search rules)
     (λ c.
-    let a = c.before.before.before.args in
+    let a = c.args in
     rw (lt-ltb (length (a.shelf.now)) (a.found.start + a.found.length) (omega arith)))
     (λ c. search rules) (λ c. search rules) (λ c. search rules) (λ c. search rules)
     (λ c.
-    let a = c.before.before.before.args in
+    let a = c.args in
     let same : a.found.start + a.found.length - a.found.start ≡ a.found.length = omega arith in
     rw (same, le-ltb (length (a.shelf.now)) (a.found.start + a.found.length) (omega arith))))

@@ -13,7 +13,7 @@ module _ (x : tie.Else-bad) where
   S = x.before.before.before.before.before
 
   good : bad_shelf (S.args.shelf.now) S.args.used ≡ false
-  good = sym x.before.bad.ensures ∙ x.if-bad.false
+  good = sym x.bad.ensures ∙ x.if-bad.false
 
   order : InOrder (S.args.shelf.now) S.args.used
   order = in_order _ _ good
@@ -26,7 +26,7 @@ module _ (x : tie.Else-told-gt0) where
   first = x.before.before.before.before
 
   higher : let a = (S first).args in not_higher a.job a.edition (records (take a.used (a.shelf-1.now))) ≡ false
-  higher = higher-told x.before.before.survey-told.ensures ∙ le-ltb 0 _ x.if-told-gt0.false
+  higher = higher-told x.survey-told.ensures ∙ le-ltb 0 _ x.if-told-gt0.false
 
 -- whether there is no room, for all that is current after the put
 no_room : (x : tie.After-short)
@@ -35,7 +35,7 @@ no_room : (x : tie.After-short)
     ≡ ltb (length (a.shelf-1.now)) (length (stored (collected (put_in (a.shelf-1.now) a.used a.job a.edition (a.sealed.now)))))
 no_room x =
     let e = first x.before in
-    let kept = x.before.before.before.survey-told.ensures.kept in
+    let kept = x.survey-told.ensures.kept in
     x.short.ensures ∙ ap (ltb (length ((S e).args.shelf.now))) (length-current _ _ (order e) (new e) refl kept)
 
 module _ (x : tie.After-make_room-at) where
@@ -67,7 +67,7 @@ returns_4 c =
 pub put_spec : {M : Type 1} → statement M
 put_spec =
     tie.close (tie.spec (λ c. search rules) (λ c. search rules)
-    (λ c. unfold put_call in rw (sym c.before.bad.ensures ∙ c.if-bad.true)) (λ c. (order c.before).within) (λ c. search rules)
+    (λ c. unfold put_call in rw (sym c.bad.ensures ∙ c.if-bad.true)) (λ c. (order c.before).within) (λ c. search rules)
     (λ c.
     let v = c.before.before in
     unfold put_call in rw (good v.before.before, higher-told v.survey-told.ensures ∙ lt-ltb 0 _ c.if-told-gt0.true))

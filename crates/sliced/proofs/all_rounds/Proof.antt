@@ -15,7 +15,7 @@ all_rounds_spec = tie.close (next8 (tie.spec
     (λ c.
     let at_loop = c.before.before.before.before.before.before.before in
     let l = at_loop.loop-i in
-    let rk = at_loop.before.args.rk in
+    let rk = at_loop.args.rk in
     let n : length rk ≡ 32 = search rules in
     let r = c.four.ensures in (
       omega arith,
@@ -27,8 +27,8 @@ all_rounds_spec = tie.close (next8 (tie.spec
           ∙ l.invariant.3 e h g,
     ))
     (λ c. unfold rounds in
-    let l = c.before.loop-i in
-    let rk = c.before.before.args.rk in
+    let l = c.loop-i in
+    let rk = c.args.rk in
     let n : length rk ≡ 32 = search rules in
     let d : drop l.i rk ≡ [] = drop_of_length-le rk {i = l.i} (omega arith) in
     (λ e h g. rw d at (l.invariant.3 e h g), l.invariant.2)))

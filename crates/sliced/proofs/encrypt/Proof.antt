@@ -13,7 +13,7 @@ encrypt_spec = tie.close (tie.spec
     let F = at_second.enter-2 in
     let at_first = at_second.before.before.before.before in
     let E = at_first.enter in
-    let a = at_first.before.before.before.before.args in (
+    let a = at_first.args in (
       λ m f h G.
           R.ensures.0 m f h
           (rows_in_lanes a.a.now a.b.now _ _ _ _ E.ensures.0 F.ensures.0 m f (omega arith) G),

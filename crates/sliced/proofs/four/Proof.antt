@@ -10,13 +10,13 @@ four_spec = tie.close (tie.spec
     (λ c. search rules) (λ c. search rules) (λ c. search rules)
     (λ c.
     let at_second = c.before.before.before.before.before.before.before.before.before.before.before in
-    let P = at_second.before.before.before.before.before.before.before.before.before.before.before.before.requires.1 in
+    let P = at_second.requires.1 in
     omega (arith, P))
     (λ c.
     let at-third = c.before.before.before.before.before.before in
     let at_second = at-third.before.before.before.before.before.before in
     let at_first = at_second.before.before.before.before.before.before in
-    let a = at_first.before.before.before.before.before.before.args in
+    let a = at_first.args in
     let r = at_first.round in
     let q = at_second.round-2 in
     let t = at-third.round-3 in

@@ -10,4 +10,4 @@ join_spec = tie.close (next8 (tie.spec
     (λ upper lower a₀ i₀ a i. (i ≤ 256) × (length a ≡ 512) × Parted i a upper lower) (λ upper lower a₀ i₀ a i. 256 - i)
     (λ c. search rules)) (omega arith) (λ c. search rules) (λ c. search rules) (λ c. search rules)
     (λ c. search (rules, joined-next))
-    (λ c. let l = c.before.loop-i in let e : l.i ≡ 256 = omega arith in (rw e at l.invariant.2, l.invariant.1)))
+    (λ c. let l = c.loop-i in let e : l.i ≡ 256 = omega arith in (rw e at l.invariant.2, l.invariant.1)))

@@ -11,8 +11,8 @@ mix_spec = tie.close (next16 (tie.spec
     (λ a₀ s i₀ a i. 256 - i) (λ c. search rules)) (omega arith) (λ c. search rules) (λ c. search rules) (λ c. search rules)
     (λ c. search rules) (λ c. search rules)
     (λ c.
-    let l = c.before.before.before.before.before.before.before.loop-i in
-    let a = c.before.before.before.before.before.before.before.before.args in
+    let l = c.loop-i in
+    let a = c.args in
     let i = l.invariant in
     (omega arith, search rules, λ f n h g. mixed-next f n a.a-1.now a.s.now h g l.i l.a-1 (search rules) i.1 (i.2 f n h g)))
-    (λ c. let l = c.before.loop-i in (λ f n h g p k hp. (l.invariant.2 f n h g).0 p k (omega arith), l.invariant.1)))
+    (λ c. let l = c.loop-i in (λ f n h g p k hp. (l.invariant.2 f n h g).0 p k (omega arith), l.invariant.1)))

@@ -11,6 +11,6 @@ part_spec = tie.close (next8 (tie.spec
     (λ a upper₀ lower₀ i₀ upper lower i. 256 - i) (λ c. search rules)) (omega arith) (λ c. search rules) (λ c. search rules)
     (λ c. search rules)
     (λ c.
-    let n = c.before.before.before.loop-i.invariant in
+    let n = c.loop-i.invariant in
     (omega arith, search rules, search rules, parted_next _ _ _ _ (search rules) n.1 n.2 n.3))
-    (λ c. let l = c.before.loop-i in let e : l.i ≡ 256 = omega arith in (rw e at l.invariant.3, (l.invariant.1, l.invariant.2))))
+    (λ c. let l = c.loop-i in let e : l.i ≡ 256 = omega arith in (rw e at l.invariant.3, (l.invariant.1, l.invariant.2))))

@@ -14,9 +14,9 @@ round_spec = tie.close (tie.spec
     (omega arith, r.1, λ p k hp. r.0 p k (omega arith)))
     (λ c. search rules) (λ c. search rules)
     (λ c.
-    let D = c.before.before.before.double in
-    let l = c.before.before.before.before.before.before.loop-q in
-    let a = c.before.before.before.before.before.before.before.args in
+    let D = c.double in
+    let l = c.loop-q in
+    let a = c.args in
     let f = subbed a.b.now a.c.now a.d.now a.k in
     let h : Held f a.n 256 l.s = λ p k hp. l.invariant.2 p k (omega arith) in
     let m = c.mix.ensures.0 f a.n (λ e. tau-lt (keyed a.b.now a.c.now a.d.now a.k e)) (D.ensures.0 f a.n h) in

@@ -16,7 +16,7 @@ loop_again : tie.Need-loop-at-preserved invariant_loop decreases_loop
 loop_again c =
     let at-step = c.before.before in
     let at_loop = at-step.before.before.before.before in
-    let a = at_loop.before.before.before.before.args in
+    let a = at_loop.args in
     let l = at_loop.loop-at in
     let d = a.«data».now in
     let b = tailed l.at d in
@@ -25,9 +25,9 @@ loop_again c =
 
 returns : tie.Need-returns invariant_loop decreases_loop
 returns c =
-    let a = c.before.before.before.before.before.before.before.before.before.before.args in
-    let l = c.before.before.before.before.before.before.loop-at in
-    let rested = c.before.before.xor_rest-pad.ensures in
+    let a = c.args in
+    let l = c.loop-at in
+    let rested = c.xor_rest-pad.ensures in
     ended a.kind a.rk l.invariant _ _ _ (omega arith) rested.0 rested.1
 
 pub one_by_one_spec : {M : Type 1} → statement M

@@ -7,8 +7,8 @@ use Rattle.stream.proofs.stream.Tie as tie
 returns : tie.Need-returns
 returns c =
     let at-run = c.before.before.before.before.before.before.before.before in
-    let a = at-run.before.before.before.before.before.args in
-    onward a.kind a.rk at-run.run-begun.ensures _ _ _ _ c.before.before.finish.ensures
+    let a = at-run.args in
+    onward a.kind a.rk at-run.run-begun.ensures _ _ _ _ c.finish.ensures
 
 pub stream_spec : {M : Type 1} → statement M
 stream_spec = tie.close (tie.spec (λ c. search rules) (λ c. omega arith) (λ c. omega arith) (λ c. omega arith) (λ c. omega arith)

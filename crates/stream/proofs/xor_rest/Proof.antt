@@ -7,8 +7,8 @@ use Rattle.stream.proofs.xor_rest.Tie as tie
 
 returns : tie.Need-returns-then-not-pad_needed
 returns c =
-    let needed = c.before.pad_needed.ensures in
-    let a = c.before.before.before.before.before.args in
+    let needed = c.pad_needed.ensures in
+    let a = c.args in
     let none = not-true _ c.if-not-pad_needed.true in
     (λ e. untrue (sym none ∙ needed.0 e), nothing_written (a.«data».now) (encrypt_block a.rk (unwords a.s)) _ (needed.1 none))
 
@@ -24,7 +24,7 @@ returns_2 c =
     let ciphered = encrypt-unwords a.rk a.s four (below_each (2 ^ 32) a.s (λ i. (fits i).fits)) in
     let pad : at-combine.combine_block-pad.result ≡ encrypt_block a.rk (unwords a.s) =
     at-combine.combine_block-pad.ensures ∙ rw (at-encrypt.encrypt.ensures, ciphered) in
-    (λ e. pad, rw pad at c.before.before.xor_bytes.ensures)
+    (λ e. pad, rw pad at c.xor_bytes.ensures)
 
 pub xor_rest_spec : {M : Type 1} → statement M
 xor_rest_spec = tie.close (tie.spec (λ c. search rules) returns (λ c. search rules) (λ c. search rules) (λ c. search rules)

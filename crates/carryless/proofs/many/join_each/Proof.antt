@@ -14,7 +14,7 @@ join_each_spec = tie.close (next8 (tie.spec
     (λ p q r n high₀ low₀ g₀ high low g. n - g) (λ c. search rules)) (omega arith) (λ c. search rules) (λ c. search rules)
     (λ c. search rules) (λ c. search rules) (λ c. search rules)
     (λ c.
-    let l = c.before.before.before.before.before.loop-g in
+    let l = c.loop-g in
     let next = both-next l.g _ _ l.high l.low (omega arith) (omega arith) _ c.joined-z.ensures l.invariant.3 in
     (omega arith, search rules, search rules, next))
-    (λ c. let l = c.before.loop-g in (λ j h. l.invariant.3 j (omega arith), l.invariant.1, l.invariant.2)))
+    (λ c. let l = c.loop-g in (λ j h. l.invariant.3 j (omega arith), l.invariant.1, l.invariant.2)))

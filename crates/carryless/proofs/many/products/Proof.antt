@@ -15,6 +15,6 @@ products_spec = tie.close (next8 (tie.spec
     (λ c. search rules) (λ c. search rules) (λ c. search rules) (λ c. search rules) (λ c. search rules) (λ c. search rules)
     (λ c. search rules)
     (λ c.
-    let l = c.before.before.before.loop-g in
+    let l = c.loop-g in
     (omega arith, search rules, l.invariant.2, each_next _ l.g _ l.z (omega arith) c.clmul32.ensures l.invariant.3))
-    (λ c j h. c.before.loop-g.invariant.3 j (omega arith)))
+    (λ c j h. c.loop-g.invariant.3 j (omega arith)))

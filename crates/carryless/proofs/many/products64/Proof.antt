@@ -13,12 +13,12 @@ products64_spec = tie.close (tie.spec
     let at_p = at-r.before.before.before.before in
     let at-s = at_p.before.before in
     let at_b = at-s.before.before.before in
-    let a = at_b.before.before.args in
+    let a = at_b.args in
     let done = c.join_each.ensures in (
       λ g h.
           done.0 g h
-          ∙ join-halves (get_or a.x.now g 0) a.y _ _ _ _ _ _ (at_b.before.halves-a.ensures g h) (at_b.halves-b.ensures g h)
-          (at-s.sums-s.ensures g h) (at_p.products-p.ensures g h) (at-r.before.before.products-q.ensures g h)
+          ∙ join-halves (get_or a.x.now g 0) a.y _ _ _ _ _ _ (at_b.halves-a.ensures g h) (at_b.halves-b.ensures g h)
+          (at-s.sums-s.ensures g h) (at_p.products-p.ensures g h) (at-r.products-q.ensures g h)
           (at-r.products-r.ensures g h),
       done.1,
       done.2,

@@ -12,6 +12,6 @@ sums_spec = tie.close (next8 (tie.spec
     (λ a b n r₀ g₀ r g. (g ≤ n) × (length r ≡ 16) × Each (λ i. get_or a i 0 ⊕ get_or b i 0) g r) (λ a b n r₀ g₀ r g. n - g) (λ c. search rules))
     (omega arith)
     (λ c.
-    let l = c.before.before.before.loop-g in
+    let l = c.loop-g in
     (omega arith, search rules, each_next _ l.g _ l.r-1 (omega arith) refl l.invariant.2))
-    (λ c j h. c.before.loop-g.invariant.2 j (omega arith)))
+    (λ c j h. c.loop-g.invariant.2 j (omega arith)))

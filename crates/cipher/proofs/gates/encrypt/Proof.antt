@@ -21,16 +21,16 @@ loop2_again : tie.Need-loop-i-2-preserved invariant_loop2 decreases_loop2 invari
 loop2_again c =
     let at-loop2 = c.before.before in
     let m = at-loop2.loop-i-2 in
-    let rk = at-loop2.before.before.before.args.rk in
+    let rk = at-loop2.args.rk in
     let n : length rk ≡ 32 = search rules in
     (omega arith, rw c.round-x.ensures (rounds-next rk m.x m.i (omega arith) ∙ m.invariant.1))
 
 pub encrypt_spec : {M : Type 1} → statement M
 encrypt_spec = tie.close (tie.spec invariant_loop2 decreases_loop2 invariant_loop decreases_loop (λ c. (search rules, refl, refl)) (λ c. omega arith)
     (λ c. (omega arith, refl)) (λ c. omega arith)
-    (λ c. (omega arith, omega arith, c.before.loop-i-2.invariant.1 ∙ c.before.before.before.loop-i.invariant.2)) (λ c. search rules)
+    (λ c. (omega arith, omega arith, c.loop-i-2.invariant.1 ∙ c.loop-i.invariant.2)) (λ c. search rules)
     (λ c. search rules)
     (λ c. search rules) (λ c. omega arith) (λ c. omega arith) loop2_again (λ c. search rules) (λ c. search rules) (λ c. search rules)
     (λ c. search rules)
-    (λ c. let n : length c.before.before.args.rk ≡ 32 = search rules in
-    rounds-done _ _ _ c.before.loop-i.i (omega arith) c.before.loop-i.invariant.2))
+    (λ c. let n : length c.args.rk ≡ 32 = search rules in
+    rounds-done _ _ _ c.loop-i.i (omega arith) c.loop-i.invariant.2))

@@ -6,4 +6,4 @@ use Rattle.cipher.proofs.gates.t_trans.Tie as tie
 pub t_trans_spec : {M : Type 1} → statement M
 unfolding T
 t_trans_spec = tie.close (tie.spec (λ c. search rules) (λ c. search rules)
-    (λ c. c.l_trans.ensures ∙ rw c.before.tau_trans.ensures))
+    (λ c. c.l_trans.ensures ∙ rw c.tau_trans.ensures))

@@ -6,4 +6,4 @@ use Rattle.cipher.proofs.gates.tau_trans.Tie as tie
 
 pub tau_trans_spec : {M : Type 1} → statement M
 tau_trans_spec = tie.close (tie.spec (λ c. search rules) (λ c. search rules)
-    (λ c. c.four_bytes.ensures ∙ tau-lanes c.before.before.args.input _ (search rules) c.before.sbox.ensures))
+    (λ c. c.four_bytes.ensures ∙ tau-lanes c.args.input _ (search rules) c.sbox.ensures))

@@ -9,5 +9,5 @@ four_rounds_spec = tie.close (tie.spec (λ c. search rules) (λ c. search rules)
     (λ c. search rules) (λ c. search rules) (λ c. search rules) (λ c. search rules) (λ c. search rules) (λ c. search rules)
     (λ c. search rules) (λ c. search rules) (λ c. search rules) (λ c. search rules) (λ c. search rules) (λ c. search rules)
     (λ c. search rules)
-    (λ c. four_by_hand _ _ _ _ _ _ (search rules) c.before.before.before.t_trans.ensures c.before.before.t_trans-2.ensures
-    c.before.t_trans-3.ensures c.t_trans-4.ensures))
+    (λ c. four_by_hand _ _ _ _ _ _ (search rules) c.t_trans.ensures c.t_trans-2.ensures
+    c.t_trans-3.ensures c.t_trans-4.ensures))

@@ -7,10 +7,10 @@ use Rattle.cipher.proofs.mixed.t_trans.Statement.{statement}
 use Rattle.cipher.proofs.mixed.t_trans.Tie as tie
 
 pub t_trans_spec : {M : Type 1} → statement M
-t_trans_spec = tie.close (tie.spec (λ c. search rules) (λ c. search rules) (λ c. omega (arith, mixed-length _ c.before.requires))
+t_trans_spec = tie.close (tie.spec (λ c. search rules) (λ c. search rules) (λ c. omega (arith, mixed-length _ c.requires))
     (λ c. search rules)
-    (λ c. search rules) (λ c. search rules) (λ c. omega (arith, mixed-length _ c.before.before.requires)) (λ c. search rules)
+    (λ c. search rules) (λ c. search rules) (λ c. omega (arith, mixed-length _ c.requires)) (λ c. search rules)
     (λ c. search rules) (λ c. search rules)
-    (λ c. omega (arith, mixed-length _ c.before.before.before.requires)) (λ c. search rules) (λ c. search rules) (λ c. search rules)
-    (λ c. omega (arith, mixed-length _ c.before.before.before.before.requires))
+    (λ c. omega (arith, mixed-length _ c.requires)) (λ c. search rules) (λ c. search rules) (λ c. search rules)
+    (λ c. omega (arith, mixed-length _ c.requires))
     (λ c. let start = c.before.before.before.before in rw start.requires (mixed-T start.args.input (omega arith))))

@@ -13,13 +13,13 @@ unfolding block_call
 returns c =
     let told = c.before.before in
     let at-number = told.before.before.before in
-    rw (← told.before.before.block-checked.ensures, told.checked-1.given.1)
+    rw (← told.block-checked.ensures, told.checked-1.given.1)
     (leaves _ (rw at-number.number_in-key.ensures at c.refused.ensures) refl)
 
 block_requires_2 : tie.Need-block-requires
 block_requires_2 c =
     let told = c.before.before in
-    let in_order = block_passed _ _ _ _ _ (sym told.before.before.block-checked.ensures ∙ told.enum_told-1.given.1) in
+    let in_order = block_passed _ _ _ _ _ (sym told.block-checked.ensures ∙ told.enum_told-1.given.1) in
     (in_order.size, in_order.enough)
 
 returns_2 : tie.Need-returns
@@ -28,9 +28,9 @@ returns_2 c =
     let at-work = c.before.before.before in
     let told = at-work.before.before.before in
     let at-number = told.before.before.before in
-    let a = at-number.before.before.before.args in
+    let a = at-number.args in
     let n = length-block a.direction a.self.rk-1 (a.block_in.now) in
-    rw (← told.before.before.block-checked.ensures, told.enum_told-1.given.1)
+    rw (← told.block-checked.ensures, told.enum_told-1.given.1)
     (leaves _ (rw at-number.number_in-key.ensures at c.done.ensures) (ap {B = Outcome} (keyed _)
     (reached (block_of a.direction a.self.rk-1 (a.block_in.now)) (a.out-1.now) _ 16 n (rw n at-work.block.ensures))))
 

@@ -17,4 +17,4 @@ no_key c WrongNumber told = refl
 
 pub retire_spec : {M : Type 1} → statement M
 unfolding retire
-retire_spec = tie.close (tie.spec (λ c. search rules) (λ c. rw (no_key _ _ c.in_default.keys2)) (λ c. rw c.before.enum_told-1.given.1))
+retire_spec = tie.close (tie.spec (λ c. search rules) (λ c. rw (no_key _ _ c.in_default.keys2)) (λ c. rw c.enum_told-1.given.1))

@@ -6,5 +6,5 @@ use Rattle.cipher_mode.proofs.checks.data.Tie as tie
 
 pub data_spec : {M : Type 1} → statement M
 unfolding data_check
-data_spec = tie.close (tie.spec (λ c. search rules) (λ c. rw (← c.before.limit_of.ensures, lt-ltb _ _ c.if-n-limit_of.true))
-    (λ c. search rules) (λ c. rw (← c.before.before.limit_of.ensures, le-ltb _ _ c.before.if-n-limit_of.false) c.shape.ensures))
+data_spec = tie.close (tie.spec (λ c. search rules) (λ c. rw (← c.limit_of.ensures, lt-ltb _ _ c.if-n-limit_of.true))
+    (λ c. search rules) (λ c. rw (← c.limit_of.ensures, le-ltb _ _ c.if-n-limit_of.false) c.shape.ensures))

@@ -5,5 +5,5 @@ use Rattle.cipher_mode.proofs.checks.label.Tie as tie
 
 pub label_spec : {M : Type 1} → statement M
 label_spec = tie.close (tie.spec (λ c. search rules) (λ c. search rules) (λ c. search rules) (λ c. search rules) (λ c. search rules)
-    (λ c. rw (c.before.enum_told-in-Gcm-1.given.1, lt-ltb _ _ c.if-n-gt-LIMIT.true)) (λ c. search rules) (λ c. search rules) (λ c. search rules)
-    (λ c. search rules) (λ c. rw (c.before.enum_told-in-Gcm-1.given.1, le-ltb _ _ c.if-n-gt-LIMIT.false)))
+    (λ c. rw (c.enum_told-in-Gcm-1.given.1, lt-ltb _ _ c.if-n-gt-LIMIT.true)) (λ c. search rules) (λ c. search rules) (λ c. search rules)
+    (λ c. search rules) (λ c. rw (c.enum_told-in-Gcm-1.given.1, le-ltb _ _ c.if-n-gt-LIMIT.false)))

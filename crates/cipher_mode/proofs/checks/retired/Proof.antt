@@ -5,4 +5,4 @@ use Rattle.cipher_mode.proofs.checks.retired.Tie as tie
 
 pub retired_spec : {M : Type 1} → statement M
 retired_spec = tie.close (tie.spec (λ c. search rules) (λ c. search rules) (λ c. search rules)
-    (λ c. rw (c.before.enum_told-1.given.1, c.if-retired.true)) (λ c. search rules))
+    (λ c. rw (c.enum_told-1.given.1, c.if-retired.true)) (λ c. search rules))

@@ -6,5 +6,5 @@ use Rattle.cipher_mode.proofs.checks.room.Tie as tie
 
 pub room_spec : {M : Type 1} → statement M
 unfolding room_check
-room_spec = tie.close (tie.spec (λ c. search rules) (λ c. rw (← c.before.room_of.ensures, lt-ltb _ _ c.if-room-room_of.true))
-    (λ c. rw (← c.before.room_of.ensures, le-ltb _ _ c.if-room-room_of.false)))
+room_spec = tie.close (tie.spec (λ c. search rules) (λ c. rw (← c.room_of.ensures, lt-ltb _ _ c.if-room-room_of.true))
+    (λ c. rw (← c.room_of.ensures, le-ltb _ _ c.if-room-room_of.false)))

@@ -10,7 +10,7 @@ returns c =
     let at_split = at-encrypt.before in
     let at-keys = at_split.before.before in
     rw (at-encrypt.encrypt_by.ensures, at-keys.keys_for-keys.ensures, at_split.split_block.ensures, block_by) at
-    c.before.before.put_block.ensures
+    c.put_block.ensures
 
 pub block_spec : {M : Type 1} → statement M
 block_spec = tie.close (tie.spec (λ c. search rules) (λ c. search rules) (λ c. search rules) (λ c. search rules)

@@ -12,7 +12,7 @@ use Rattle.cipher_mode.proofs.Opens.{cbc_left}
 use Rattle.cipher_mode.proofs.work.by_cbc.Statement.{statement}
 use Rattle.cipher_mode.proofs.work.by_cbc.Tie as tie
 
-is_iv : (x : tie.After-split_block-start) → unwords x.split_block-start.result ≡ x.before.before.before.before.before.args.iv.now
+is_iv : (x : tie.After-split_block-start) → unwords x.split_block-start.result ≡ x.args.iv.now
 is_iv x =
     let at-iv = x.before.before.before in
     let S = at-iv.before.before in

@@ -63,7 +63,7 @@ decrypt_requires c =
 
 -- what is told of the counter: J0's last word is the number in its last four bytes
 round : (x : tie.After-start-begun) (b : Bool) (m n : ℕ) → m ≡ n → b ≡ gcm_came_round (get_or x.start-begun.result.j0-1 3 0) (blocks_of m)
-    → let a = x.before.before.before.before.before.before.before.args in b ≡ gcm_round a.rk (a.iv.now) n
+    → let a = x.args in b ≡ gcm_round a.rk (a.iv.now) n
 round x b m n k e =
     let j = x.start-begun.result.j0-1 in
     let h : Fits w32 (get_or j 3 0) = search (rules, x.start-begun) in
@@ -85,7 +85,7 @@ returns c =
     rw way (told_of _ _ _ _ _
     (round at-start c.gcm_came_round.result _ (length d) (at-text-length.text_length-n.ensures.0 way) c.gcm_came_round.ensures)
     (reached (sealed a.rk (hash_key a.rk) j aad d) o _ _
-    (length-sealed a.rk (hash_key a.rk) j aad d ∙ sym c.before.encrypted_length.ensures) (at-encrypt.encrypt.ensures
+    (length-sealed a.rk (hash_key a.rk) j aad d ∙ sym c.encrypted_length.ensures) (at-encrypt.encrypt.ensures
     ∙ ap₂ (λ (h : ℕ) (j : List ℕ). over (sealed a.rk h j aad d) o) at-start.start-begun.ensures.0 at-start.start-begun.ensures.1.0)) refl)
 
 returns_2 : tie.Need-returns-in-Decrypt
@@ -111,7 +111,7 @@ returns_2 c =
     (round at-start b _ (length d - 16) n at-round.gcm_came_round-in-Decrypt.ensures))
 
 pub by_gcm_spec : {M : Type 1} → statement M
-by_gcm_spec = tie.close (tie.spec (λ c c.lifetimes e. with_tag_passed _ (rw e at c.before.before.before.before.before.requires.1.1.1.0))
+by_gcm_spec = tie.close (tie.spec (λ c c.lifetimes e. with_tag_passed _ (rw e at c.requires.1.1.1.0))
     start_requires (λ c. search rules) (λ c. search rules) encrypt_requires encrypted_length_requires (λ c. search rules)
     (λ c. search rules) (λ c. search rules) (λ c. search rules) decrypt_requires (λ c. search rules) (λ c. search rules)
     (λ c. search rules) (λ c. search rules) returns (λ c. search rules) returns_2)

@@ -17,7 +17,7 @@ returns c =
     let small : (i : ℕ) → get_or iv i 0 < 256 = λ i. omega (arith, at-iv.shared_slice_known-2-1.given i) in
     let is_iv = spelled iv _ S.requires.1.0 small at_split.split_block.ensures in
     reached (chain (stream_mode a.kind a.rk) iv (a.«data».now)) (a.out-1.now) _ _ (length-stream a.kind a.rk iv _)
-    (rw is_iv at c.before.before.stream.ensures.1.1)
+    (rw is_iv at c.stream.ensures.1.1)
 
 pub by_stream_spec : {M : Type 1} → statement M
 by_stream_spec = tie.close (tie.spec (λ c. search rules) (λ c. search rules) (λ c. search rules) returns)

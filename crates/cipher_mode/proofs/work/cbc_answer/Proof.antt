@@ -6,5 +6,5 @@ use Rattle.cipher_mode.proofs.work.cbc_answer.Tie as tie
 
 pub cbc_answer_spec : {M : Type 1} → statement M
 cbc_answer_spec =
-    tie.close (tie.spec (λ c. search rules) (λ c. search rules) (λ c. search rules) (λ c. sym (ap cbc_head c.before.opened-1.given.1))
+    tie.close (tie.spec (λ c. search rules) (λ c. search rules) (λ c. search rules) (λ c. sym (ap cbc_head c.opened-1.given.1))
     (λ c. sym (ap cbc_head c.enum_told-1.given.1)) (λ c. sym (ap cbc_head c.enum_told-in-InvalidPadding-1.given.1)))

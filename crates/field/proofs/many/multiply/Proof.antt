@@ -15,7 +15,7 @@ multiply_spec =
     let at_low = at_both.before.before.before.before.before in
     let at_high = at_low.before.before.before.before in
     let S = at_high.before.before.before.before.before.before.before in
-    let small = at_both.before.before.before.struct_known-1.given.0.fits in
+    let small = at_both.struct_known-1.given.0.fits in
     let high = at_high.products64.ensures in
     let low = at_low.products64-2.ensures in
     let both = at_both.products64-3.ensures in (
@@ -26,9 +26,9 @@ multiply_spec =
     let at_both = c.before.before.before.before.before.before.before.before.before in
     let at_low = at_both.before.before.before.before.before in
     let at_high = at_low.before.before.before.before in
-    let sum = at_high.before.before.before.before.sums-s.ensures in
+    let sum = at_high.sums-s.ensures in
     let done = c.reduce_each.ensures in
-    let small = at_both.before.before.before.struct_known-1.given.1.0.fits in (
+    let small = at_both.struct_known-1.given.1.0.fits in (
       λ g h.
           reduced-product _ _ _ _ (done.0 g h)
           (join_128 _ _ _ _ _ _ _ (sum.1 g h) small (at_high.products64.ensures.0 g h) (at_low.products64-2.ensures.0 g h)

@@ -15,14 +15,14 @@ reduce_each_spec =
     (λ c. search rules) (λ c. search rules) (λ c. search rules)
     (λ c.
     let in-loop = c.before.before.before.before.before.before in
-    in-loop.before.before.requires.0.1 in-loop.before.loop-g.g in-loop.loop-g-test.true)
+    in-loop.requires.0.1 in-loop.loop-g.g in-loop.loop-g-test.true)
     (λ c. search rules) (λ c. search rules) (λ c. search rules) (λ c. search rules) (λ c. search rules) (λ c. search rules)
     (λ c.
     let in-loop = c.before.before.before.before.before.before.before in
     let at_loop = in-loop.before in
     let l = at_loop.loop-g in
     let t = in-loop.loop-g-test.true in
-    let few = at_loop.before.requires.0.0 in
+    let few = at_loop.requires.0.0 in
     let next = both-next l.g _ _ l.high l.low (omega arith) (omega arith) _ c.reduced-z.ensures l.invariant.3 in
     (omega arith, search rules, search rules, next))
-    (λ c. let l = c.before.loop-g in (λ j h. l.invariant.3 j (omega arith), l.invariant.1, l.invariant.2)))
+    (λ c. let l = c.loop-g in (λ j h. l.invariant.3 j (omega arith), l.invariant.1, l.invariant.2)))

@@ -11,10 +11,10 @@ sums_spec =
     (λ a b n r₀ g₀ r g. n - g) (λ c. search rules) (λ c. search rules) (λ c. search rules) (λ c. search rules) (λ c. search rules)
     (λ c. search rules) (λ c. search rules) (λ c. search rules) (λ c. search rules) (λ c. search rules)
     (λ c.
-    let l = c.before.before.before.before.loop-g in (
+    let l = c.loop-g in (
       omega arith,
       search rules,
       each_next _ l.g _ l.r (omega arith) c.sum.ensures.0 l.invariant.2,
       one_more _ l.g c.sum.ensures.1 l.invariant.3,
     ))
-    (λ c. let l = c.before.loop-g in (λ j h. l.invariant.2 j (omega arith), λ j h. l.invariant.3 j (omega arith))))
+    (λ c. let l = c.loop-g in (λ j h. l.invariant.2 j (omega arith), λ j h. l.invariant.3 j (omega arith))))

@@ -13,5 +13,5 @@ absorb_spec =
     (λ c. search rules) (λ c. search rules) (λ c. search rules)
     (λ c.
     let known = c.before.before.before in
-    let bytes = below_each 256 known.before.args.rest.now (λ i. (known.shared_slice_known-1.given i).fits) in
-    absorbed_same c.step.ensures (c.before.to_u128-b.ensures ∙ rw c.before.before.load_block.ensures (block_of-words _ bytes))))
+    let bytes = below_each 256 known.args.rest.now (λ i. (known.shared_slice_known-1.given i).fits) in
+    absorbed_same c.step.ensures (c.to_u128-b.ensures ∙ rw c.load_block.ensures (block_of-words _ bytes))))

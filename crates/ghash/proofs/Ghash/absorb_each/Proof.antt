@@ -16,9 +16,9 @@ absorb_each_spec =
     (λ c. search rules) (λ c. search rules) (λ c. search rules) (λ c. search rules) (λ c. search (rules, parts_same))
     (λ c. search rules) (λ c. search rules)
     (λ c.
-    let turn = c.before.before.before.before.loop-i in
+    let turn = c.loop-i in
     let next = rw lent_all at c.absorb-state.ensures in
     (omega arith, rw (← up_to-next) (absorbed_both _ _ _ _ _ turn.invariant.1 next), turn.invariant.2))
     (λ c.
-    let all : c.before.loop-i.i ≡ block_count (length c.before.before.before.before.before.args.bytes.now) = omega arith in
-    rw (blocks-up_to, ← all) c.before.loop-i.invariant.1))
+    let all : c.loop-i.i ≡ block_count (length c.args.bytes.now) = omega arith in
+    rw (blocks-up_to, ← all) c.loop-i.invariant.1))

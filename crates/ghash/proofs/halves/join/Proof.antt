@@ -5,4 +5,4 @@ use Rattle.ghash.proofs.halves.join.Tie as tie
 
 pub join_spec : {M : Type 1} → statement M
 join_spec = tie.close (tie.spec (λ c. search rules) (λ c. search rules)
-    (λ c. unfold joined in c.after.ensures ∙ rw c.before.power.ensures))
+    (λ c. unfold joined in c.after.ensures ∙ rw c.power.ensures))

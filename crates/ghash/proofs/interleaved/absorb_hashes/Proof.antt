@@ -14,6 +14,6 @@ absorb_hashes_spec =
     (λ n high low m state₀ k₀ state k. n - k) (λ c. search rules) (λ c. unfold up_to hash_from in search rules) (λ c. search rules)
     (λ c. search rules) (λ c. search rules) (λ c. search rules) (λ c. search (rules, parts_same)) (λ c. search rules) (λ c. search rules)
     (λ c.
-    let turn = c.before.before.before.before.before.loop-k in
+    let turn = c.loop-k in
     (omega arith, rw (← up_to-next) (absorbed_both _ _ _ _ _ turn.invariant.1 c.step-state.ensures), turn.invariant.2))
-    (λ c. let e : c.before.loop-k.k ≡ c.before.before.before.args.n = omega arith in rw e at c.before.loop-k.invariant.1))
+    (λ c. let e : c.loop-k.k ≡ c.args.n = omega arith in rw e at c.loop-k.invariant.1))

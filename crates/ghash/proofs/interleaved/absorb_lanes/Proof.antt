@@ -13,14 +13,14 @@ absorb_lanes_spec =
     (λ c. search rules) (λ c. search rules) (λ c. search rules) (λ c. search rules) (λ c. search rules)
     (λ c.
     let at-parts = c.before.before.before in
-    let count = at-parts.before.before.lanes_for-n.ensures in
+    let count = at-parts.lanes_for-n.ensures in
     let few = lanes-few _ count.0 in
     (at-parts.parts-m.ensures, few.0, few.1, count.1, search rules, search rules))
     (λ c. search rules)
     (λ c.
     let at-sets = c.before.before.before in
     let at-parts = at-sets.before.before.before.before in
-    let count = at-parts.before.before.lanes_for-n.ensures in
+    let count = at-parts.lanes_for-n.ensures in
     ((lanes-few _ count.0).1, at-sets.absorb_sets-taken.ensures.2, at-sets.absorb_sets-taken.ensures.3))
     (λ c.
     let at-sets = c.before.before.before.before in

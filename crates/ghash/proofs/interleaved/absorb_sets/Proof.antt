@@ -18,7 +18,7 @@ absorb_sets_spec =
     (λ c. search rules) (λ c. search rules)
     (λ c.
     let at_mul = c.before.before.before.before in
-    let l = at_mul.before.before.before.before.loop-b in
+    let l = at_mul.loop-b in
     let added = c.add_set-in-loop-b.ensures in (
       omega arith,
       added.2,
@@ -29,7 +29,7 @@ absorb_sets_spec =
           at_mul.multiply.ensures.0 added.0,
     ))
     (λ c.
-    let l = c.before.loop-b in
+    let l = c.loop-b in
     let first = c.before.before in
     let S = first.before.before.before.before in (
       λ h y hh power starts. l.invariant.4 h y hh power (hashed-first h _ y _ _ _ S.requires.1 starts first.add_set.ensures.0),

@@ -26,7 +26,7 @@ add_set_spec =
     let at_loop = at_split.before.before.before in
     let l = at_loop.loop-k in
     let known = at_loop.before in
-    let bytes = known.before.args.bytes.now in
+    let bytes = known.args.bytes.now in
     let k = l.k in
     let u = c.add-z.result.high in
     let v = c.add-z.result.low in
@@ -47,5 +47,5 @@ add_set_spec =
       λ j h. lane_other k u v l.high l.low ha hb j (λ e. omega arith) ∙ l.invariant.5 j (omega arith),
     ))
     (λ c.
-    let l = c.before.loop-k in
+    let l = c.loop-k in
     (λ j h. l.invariant.3 j (omega arith), λ j h. l.invariant.4 j (omega arith), l.invariant.1, l.invariant.2)))

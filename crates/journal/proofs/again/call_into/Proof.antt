@@ -20,16 +20,16 @@ returns_2 : tie.Need-returns
 unfolding call_into front
 returns_2 c =
     let small = c.before.before.before.before.before.before.before.before.before.before in
-    let mode = small.before.mode-number in
-    let t : ltb 4 (front (small.before.before.before.before.args.s.now)).mode-number ≡ false =
+    let mode = small.mode-number in
+    let t : ltb 4 (front (small.args.s.now)).mode-number ≡ false =
     rw (← mode.ensures) (le-ltb 4 mode.result small.if-number-gt4.false) in
-    told-outcome c.before.before.before.call.result c.told.result _ _ (cc t) c.told.ensures
+    told-outcome c.call.result c.told.result _ _ (cc t) c.told.ensures
 
 pub call_into_spec : {M : Type 1} → statement M
 call_into_spec =
     tie.close (tie.spec (λ c. search rules)
     (λ c.
     let m = c.before in
-    unfold front in bad-mode m.before.before.before.args.cipher _ _ (rw (← m.mode-number.ensures) c.if-number-gt4.true))
+    unfold front in bad-mode m.args.cipher _ _ (rw (← m.mode-number.ensures) c.if-number-gt4.true))
     (λ c. search rules) (λ c. search rules) (λ c. search rules) (λ c. search rules) (λ c. search rules) (λ c. search rules)
     (λ c. search rules) (λ c. search rules) (λ c. search rules) returns_2)

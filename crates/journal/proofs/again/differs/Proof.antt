@@ -6,17 +6,17 @@ use Rattle.journal.proofs.again.differs.Tie as tie
 pub differs_spec : {M : Type 1} → statement M
 differs_spec =
     tie.close (tie.spec (λ c. search rules) (λ c. search rules)
-    (λ c. unfold differs_from front in rw (← c.before.before.number.ensures, ne_eqb _ _ c.if-number-answered.true)) (λ c. search rules)
+    (λ c. unfold differs_from front in rw (← c.number.ensures, ne_eqb _ _ c.if-number-answered.true)) (λ c. search rules)
     (λ c.
     let o = c.before.before in
     let n = o.before in
     unfold differs_from front in
-    rw (← n.before.before.number.ensures, eq-eqb _ _ n.if-number-answered.false, ← o.output-recorded.ensures, ne_eqb _ _ c.if-recorded-answered.true))
+    rw (← n.number.ensures, eq-eqb _ _ n.if-number-answered.false, ← o.output-recorded.ensures, ne_eqb _ _ c.if-recorded-answered.true))
     (λ c. search rules)
     (λ c.
     let l = c.before in
     let o = l.before.before in
     let n = o.before in
-    let told = n.before.before.number.ensures in
+    let told = n.number.ensures in
     unfold differs_from front in
     rw (← told, eq-eqb _ _ n.if-number-answered.false, ← o.output-recorded.ensures, eq-eqb _ _ l.if-recorded-answered.false, ← c.alike.ensures)))

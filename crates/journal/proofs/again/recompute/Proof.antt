@@ -8,10 +8,10 @@ use Rattle.journal.proofs.again.recompute.Tie as tie
 -- the part that is lent has the room that was asked for
 module _ (x : tie.After-lent_room-n) where
   abbrev entry : Entry
-  entry = front (x.before.before.before.args.s.now)
+  entry = front (x.args.s.now)
 
   abbrev buffer : List ℕ
-  buffer = x.before.longest_output-out.result
+  buffer = x.longest_output-out.result
 
   abbrev part : List ℕ
   part = take (x.lent_room-n.result - 0) buffer
@@ -29,7 +29,7 @@ part-differs-end : tie.Need-slice-bounds-differs-end
 part-differs-end c =
     let at_call = c.before.before in
     let at_room = at_call.before.before in
-    let cipher = at_room.before.before.before.args.cipher in
+    let cipher = at_room.args.cipher in
     let given = at_call.call_into-answered.new.1.1.0 in
     let answers = at_call.call_into-answered.ensures in
     let o = part at_room in

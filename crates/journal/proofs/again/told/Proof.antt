@@ -5,5 +5,5 @@ use Rattle.journal.proofs.again.told.Tie as tie
 
 pub told_spec : {M : Type 1} → statement M
 told_spec =
-    tie.close (tie.spec (λ c. search rules) (λ c. search rules) (λ c. search rules) (λ c. rw c.before.ending-1.given.1)
-    (λ c. let e = c.before.before.ending-in-Refused-1.given in rw (e.1, c.number.ensures, (refuses e.0.0).no_size)))
+    tie.close (tie.spec (λ c. search rules) (λ c. search rules) (λ c. search rules) (λ c. rw c.ending-1.given.1)
+    (λ c. let e = c.ending-in-Refused-1.given in rw (e.1, c.number.ensures, (refuses e.0.0).no_size)))

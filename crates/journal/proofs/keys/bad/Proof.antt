@@ -52,22 +52,22 @@ loop_holds c =
 pub bad_spec : {M : Type 1} → statement M
 bad_spec =
     tie.close (tie.spec invariant_loop decreases_loop (λ c. unfold bad_keys in rw (lt-ltb _ _ c.if-keys-gt-MOST.true)) loop_holds (λ c. omega arith)
-    (λ c. let x = c.before in retired _ _ _ x.at-key.ensures.1 c.if-key.true ∙ x.before.before.before.loop-i.invariant.3)
+    (λ c. let x = c.before in retired _ _ _ x.at-key.ensures.1 c.if-key.true ∙ x.loop-i.invariant.3)
     (λ c. search rules) (λ c. omega arith) (λ c. omega arith)
     (λ c.
     let y = c.before.before in
     let x = y.before.before.before in
     twice _ _ _ x.at-key.ensures.1 _ y.before.number_of_lem.ensures (sym y.find_from.ensures.1 ∙ lt-ltb _ _ c.if-find_from-keys.true)
-    ∙ x.before.before.before.loop-i.invariant.3)
+    ∙ x.loop-i.invariant.3)
     (λ c. omega arith)
     (λ c.
     let y = c.before.before in
     let x = y.before.before.before in
-    let inv = x.before.before.before.loop-i.invariant in (
+    let inv = x.loop-i.invariant in (
       inv.0,
       inv.1,
       omega arith,
-      neither _ _ _ x.at-key.ensures.1 _ y.before.number_of_lem.ensures y.before.before.if-key.false
+      neither _ _ _ x.at-key.ensures.1 _ y.before.number_of_lem.ensures y.if-key.false
           (sym y.find_from.ensures.1 ∙ le-ltb _ _ c.if-find_from-keys.false) ∙ inv.3,
     ))
     (λ c. let l = c.before.before in none l.loop-i.i _ (omega arith) ∙ l.loop-i.invariant.3))

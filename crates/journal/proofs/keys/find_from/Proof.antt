@@ -47,21 +47,21 @@ pub find_from_spec : {M : Type 1} → statement M
 find_from_spec =
     tie.close (tie.spec invariant_loop decreases_loop
     (λ c. (count-keys _ (sym (length-map c.args.keys.keys _) ∙ c.well-formed.0.1.1.1.0.1.0.1) c.requires.1, c.requires.0, refl))
-    (λ c. (omega arith, c.before.before.before.requires.1)) (λ c. search rules)
+    (λ c. (omega arith, c.requires.1)) (λ c. search rules)
     (λ c.
     let x = c.before in
     let l = x.before.before.before.before in
-    let a = l.before.args in
-    let z = here a.number _ _ _ x.before.at.ensures.1 (sym x.number_of_lem.ensures ∙ c.if-number_of-number.true) in
-    told a.keys a.from a.number _ l.loop-i.invariant.0 l.before.requires.0 (omega arith))
+    let a = l.args in
+    let z = here a.number _ _ _ x.at.ensures.1 (sym x.number_of_lem.ensures ∙ c.if-number_of-number.true) in
+    told a.keys a.from a.number _ l.loop-i.invariant.0 l.requires.0 (omega arith))
     (λ c. omega arith) (λ c. omega arith)
     (λ c.
     let x = c.before in
     let l = x.before.before.before.before in
-    let z = behind l.before.args.number _ _ _ x.before.at.ensures.1 (λ e. c.if-number_of-number.false (x.number_of_lem.ensures ∙ e)) in
+    let z = behind l.args.number _ _ _ x.at.ensures.1 (λ e. c.if-number_of-number.false (x.number_of_lem.ensures ∙ e)) in
     (l.loop-i.invariant.0, omega arith, omega arith))
     (λ c.
     let l = c.before.before in
-    let a = l.before.args in
+    let a = l.args in
     let z = none a.number l.loop-i.i (keys_in a.keys) (omega arith) in
-    told a.keys a.from a.number _ l.loop-i.invariant.0 l.before.requires.0 (omega arith)))
+    told a.keys a.from a.number _ l.loop-i.invariant.0 l.requires.0 (omega arith)))

@@ -6,4 +6,4 @@ use Rattle.journal.proofs.records.behind.Tie as tie
 
 pub behind_spec : {M : Type 1} → statement M
 behind_spec = tie.close (tie.spec (λ c. omega (arith, part-fits)) (λ c. search rules) (λ c. search rules)
-    (λ c. omega (arith, part-fits, c.word_at.ensures)) (λ c. unfold behind in rw (c.skip.ensures, c.before.word_at.ensures)))
+    (λ c. omega (arith, part-fits, c.word_at.ensures)) (λ c. unfold behind in rw (c.skip.ensures, c.word_at.ensures)))

@@ -8,7 +8,7 @@ returns : tie.Need-returns
 unfolding part_at
 returns c =
     let w = c.before in
-    let b = w.before.before.args.s.now in
+    let b = w.args.s.now in
     let n : 4 + w.word_at.result-1 - 4 ≡ word_at b 0 = omega (arith, w.word_at.ensures) in
     ap (λ (k : ℕ). take k (drop 4 b)) n
 

@@ -9,9 +9,9 @@ past_part_spec =
     (λ c.
     let x = c.before in
     unfold past_part in
-    rw (c.skip.ensures, sym x.before.starts_part.ensures ∙ not-true _ x.if-not-starts_part.true)
-    (drop-length (x.before.before.before.args.s.now)))
-    (λ c. sym c.before.starts_part.ensures ∙ not-false _ c.if-not-starts_part.false)
+    rw (c.skip.ensures, sym x.starts_part.ensures ∙ not-true _ x.if-not-starts_part.true)
+    (drop-length (x.args.s.now)))
+    (λ c. sym c.starts_part.ensures ∙ not-false _ c.if-not-starts_part.false)
     (λ c.
     let x = c.before in
-    unfold past_part in rw (sym x.before.starts_part.ensures ∙ not-false _ x.if-not-starts_part.false) c.behind.ensures))
+    unfold past_part in rw (sym x.starts_part.ensures ∙ not-false _ x.if-not-starts_part.false) c.behind.ensures))

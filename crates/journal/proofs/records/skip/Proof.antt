@@ -6,4 +6,4 @@ use Rattle.journal.proofs.records.skip.Tie as tie
 pub skip_spec : {M : Type 1} → statement M
 skip_spec =
     tie.close (tie.spec (λ c. search rules) (λ c. search rules) (λ c. search rules)
-    (λ c. let a = c.before.args in tail_is (a.s.now) a.n))
+    (λ c. let a = c.args in tail_is (a.s.now) a.n))

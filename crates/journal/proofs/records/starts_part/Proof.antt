@@ -5,4 +5,4 @@ use Rattle.journal.proofs.records.starts_part.Tie as tie
 
 pub starts_part_spec : {M : Type 1} → statement M
 starts_part_spec = tie.close (tie.spec (λ c. unfold starts_part in rw (lt-leb _ _ c.if-s-lt-LENGTH.true)) (λ c. search rules)
-    (λ c. search rules) (λ c. search rules) (λ c. unfold starts_part in rw (le-leb _ _ c.before.if-s-lt-LENGTH.false, c.word_at.ensures)))
+    (λ c. search rules) (λ c. search rules) (λ c. unfold starts_part in rw (le-leb _ _ c.if-s-lt-LENGTH.false, c.word_at.ensures)))

@@ -33,10 +33,10 @@ returns c =
     let at-answer = at-data.before.before.before.before in
     let at-mode-count = at-answer.before.before.before.before.before in
     let at_place = at-mode-count.before in
-    let r = at_place.before.before.before.before.before.args.r in
+    let r = at_place.args.r in
     same-report refl
     (at-mode-count.one_more.ensures
-    ∙ ap (λ (i : ℕ). one_more i r.by_mode-1) (at_place.mode_place.ensures.0 ∙ ap mode_place at_place.before.mode.ensures))
+    ∙ ap (λ (i : ℕ). one_more i r.by_mode-1) (at_place.mode_place.ensures.0 ∙ ap mode_place at_place.mode.ensures))
     at-answer.one_more-2.ensures (ap (λ (l : List ℕ). r.bytes_in + length l) at-data.«data».ensures) refl c.first_of.ensures
 
 pub counted_spec : {M : Type 1} → statement M

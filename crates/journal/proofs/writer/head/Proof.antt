@@ -5,4 +5,4 @@ use Rattle.journal.proofs.writer.head.Tie as tie
 
 pub head_spec : {M : Type 1} → statement M
 head_spec = tie.close (tie.spec (λ c. search rules) (λ c. search rules) (λ c. search rules) (λ c. search rules) (λ c. search rules)
-    (λ c. unfold head bytes_of in rw (c.before.split-key.ensures, c.direction_byte.ensures)))
+    (λ c. unfold head bytes_of in rw (c.split-key.ensures, c.direction_byte.ensures)))

@@ -12,5 +12,5 @@ put_answered_spec =
     let x = c.before.before in
     let l = x.before.before.before.before in
     let m = l.before.before.before in
-    copied_then _ _ _ _ _ _ 5 m.middle-middle.ensures (length-middle m.before.before.before.args.call) l.copy.ensures.1
+    copied_then _ _ _ _ _ _ 5 m.middle-middle.ensures (length-middle m.args.call) l.copy.ensures.1
     x.put_part.ensures))

@@ -12,7 +12,7 @@ put_part_spec =
     let x = c.before.before in
     let l = x.before.before.before.before in
     let s = l.before.before.before in
-    let p = s.before.before.before.args.p.now in
+    let p = s.args.p.now in
     unfold part in
     copied_then (bytes_of 4 (length p)) p _ _ _ _ 4 s.split-n.ensures (length-bytes_of 4 (length p)) l.copy.ensures.1
     (whole_copied p _ _ x.copy2.ensures.1)))

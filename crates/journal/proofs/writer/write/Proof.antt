@@ -17,7 +17,7 @@ module _ (x : tie.After-past_limit) where
       entry_of start.args.call (start.args.label.now) (start.args.«data».now) (start.args.iv.now) (start.args.output.now)
 
 short_there : (c : tie.Else-past_limit) → Short (entry c.before)
-short_there c = short (entry c.before) (sym c.before.past_limit.ensures ∙ c.if-past_limit.false)
+short_there c = short (entry c.before) (sym c.past_limit.ensures ∙ c.if-past_limit.false)
 
 put-answered_requires : tie.Need-put_answered-requires
 put-answered_requires c =
@@ -33,20 +33,20 @@ returns_3 c =
     let a = (start x).args in
     let l = length-written (entry x) in
     both-put a.call (a.label.now) (a.«data».now) (a.iv.now) (a.output.now) _ _ _ _ _
-    (sym x.past_limit.ensures ∙ fits.before.if-past_limit.false) (omega (arith, fits.if-out-size.false)) (omega arith) (omega arith)
+    (sym x.past_limit.ensures ∙ fits.if-past_limit.false) (omega (arith, fits.if-out-size.false)) (omega arith) (omega arith)
     at-asked.put_asked.ensures at-answered.put_answered.ensures
 
 pub write_spec : {M : Type 1} → statement M
 write_spec =
-    tie.close (tie.spec (λ c. search rules) (λ c. unfold write in rw (sym c.before.past_limit.ensures ∙ c.if-past_limit.true))
+    tie.close (tie.spec (λ c. search rules) (λ c. unfold write in rw (sym c.past_limit.ensures ∙ c.if-past_limit.true))
     (λ c. search rules) (λ c. search rules) (λ c. search rules) (λ c. omega (arith, short_there c)) (λ c. omega (arith, short_there c))
     (λ c. omega (arith, short_there c)) (λ c. omega (arith, short_there c)) (λ c. omega (arith, short_there c))
     (λ c.
     let x = c.before.before in
     unfold write in
     rw (
-      sym x.past_limit.ensures ∙ c.before.if-past_limit.false,
+      sym x.past_limit.ensures ∙ c.if-past_limit.false,
       lt-ltb (length ((start x).args.out.now)) (length (written (entry x))) (omega (arith, c.if-out-size.true, length-written (entry x))),
     ))
-    (λ c. let s = short_there c.before.before in (s.label, (s.«data», (s.iv, omega (arith, c.before.if-out-size.false)))))
+    (λ c. let s = short_there c.before.before in (s.label, (s.«data», (s.iv, omega (arith, c.if-out-size.false)))))
     (λ c. search rules) (λ c. search rules) (λ c. search rules) put-answered_requires (λ c. search rules) returns_3)

@@ -17,7 +17,7 @@ returns c =
     let at-which = c.before in
     let at_key = at-which.before.before.before in
     let at_label = at_key.before in
-    let a = at_label.before.before.before.args in
+    let a = at_label.args in
     let file = a.sealed.now in
     let iv = a.iv.now in
     c.report_ended.ensures ∙ asked_ended at-which.which-found.result ∙ ap to_one at-which.which-found.ensures

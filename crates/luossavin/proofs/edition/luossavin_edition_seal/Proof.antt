@@ -5,4 +5,4 @@ use Rattle.luossavin.proofs.edition.luossavin_edition_seal.Tie as tie
 
 pub luossavin_edition_seal_spec : {M : Type 1} → statement M
 luossavin_edition_seal_spec = tie.close (tie.spec (λ c. search rules) (λ c. search rules) (λ c. search rules) (λ c. search rules)
-    (λ c. rw (← c.before.before.before.before.before.label-label.ensures) c.before.before.mode_call.ensures))
+    (λ c. rw (← c.label-label.ensures) c.mode_call.ensures))

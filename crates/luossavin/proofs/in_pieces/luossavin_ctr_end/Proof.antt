@@ -6,4 +6,4 @@ use Rattle.luossavin.proofs.in_pieces.luossavin_ctr_end.Tie as tie
 
 pub luossavin_ctr_end_spec : {M : Type 1} → statement M
 luossavin_ctr_end_spec =
-    tie.close (tie.spec (λ c. search rules) (λ c. search rules) (λ c. handed_on c.ctr_step.ensures c.before.end.ensures))
+    tie.close (tie.spec (λ c. search rules) (λ c. search rules) (λ c. handed_on c.ctr_step.ensures c.end.ensures))

@@ -10,7 +10,7 @@ unfolding host_ctr_start
 returns c =
     let at_key = c.before.before in
     handed_on c.ctr_step.ensures
-    (rw (← at_key.cipher_of.ensures, ← at_key.before.direction_of.ensures) c.before.start.ensures)
+    (rw (← at_key.cipher_of.ensures, ← at_key.direction_of.ensures) c.start.ensures)
 
 pub luossavin_ctr_start_spec : {M : Type 1} → statement M
 luossavin_ctr_start_spec =

@@ -6,4 +6,4 @@ use Rattle.luossavin.proofs.in_pieces.luossavin_opens_end.Tie as tie
 
 pub luossavin_opens_end_spec : {M : Type 1} → statement M
 luossavin_opens_end_spec = tie.close (tie.spec (λ c. search rules) (λ c. search rules)
-    (λ c. handed_on c.opens_step.ensures c.before.end.ensures))
+    (λ c. handed_on c.opens_step.ensures c.end.ensures))

@@ -6,4 +6,4 @@ use Rattle.luossavin.proofs.in_pieces.luossavin_seal_piece.Tie as tie
 
 pub luossavin_seal_piece_spec : {M : Type 1} → statement M
 luossavin_seal_piece_spec = tie.close (tie.spec (λ c. search rules) (λ c. search rules) (λ c. search rules)
-    (λ c. handed_on c.seal_step.ensures c.before.before.before.piece.ensures))
+    (λ c. handed_on c.seal_step.ensures c.piece.ensures))

@@ -8,4 +8,4 @@ use Rattle.luossavin.proofs.in_pieces.luossavin_seal_start.Tie as tie
 pub luossavin_seal_start_spec : {M : Type 1} → statement M
 unfolding host_seal_start
 luossavin_seal_start_spec = tie.close (tie.spec (λ c. search rules) (λ c. search rules) (λ c. search rules)
-    (λ c. handed_on c.seal_step.ensures (rw (← c.before.before.cipher_of.ensures) c.before.start.ensures)))
+    (λ c. handed_on c.seal_step.ensures (rw (← c.cipher_of.ensures) c.start.ensures)))

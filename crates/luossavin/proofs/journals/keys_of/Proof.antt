@@ -26,7 +26,7 @@ loop_again : tie.Need-loop-i-preserved invariant_loop decreases_loop
 loop_again c =
     let at_loop = c.before.before.before in
     let l = at_loop.loop-i in
-    let ks = at_loop.before.before.before.before.args.keys.keys in
+    let ks = at_loop.args.keys.keys in
     let made = one_made ks l.ours l.i _ _ (omega arith) (omega arith) c.cipher_of.ensures in
     (omega arith, l.invariant.1, length-set l.ours l.i _ ∙ l.invariant.2, made ∙ l.invariant.3)
 
@@ -35,7 +35,7 @@ unfolding keys_of
 returns c =
     let at_loop = c.before in
     let l = at_loop.loop-i in
-    let k = at_loop.before.before.before.before.args.keys in
+    let k = at_loop.args.keys in
     ap {B = Keys} (λ (cs : List Sm4Cipher). record { count = k.count; keys = cs })
     (sym (all_made k.keys l.ours l.i (omega arith) (omega arith)) ∙ l.invariant.3)
 

@@ -14,8 +14,8 @@ luossavin_record_spec =
     let w = c.before.before.before in
     let n = w.before.before in
     let d = n.before.before.before in
-    let o = d.before.before.before.before.before.before.args.out.now in
+    let o = d.args.out.now in
     rw c.report_wrote.ensures
     (ap leaves_outcome w.write.ensures
     ∙ written-recorded _ o
-    ∙ rw (d.direction_of.ensures, n.before.before.at_most.ensures.0, n.before.at_most-2.ensures.0, n.at_most-3.ensures.0))))
+    ∙ rw (d.direction_of.ensures, n.at_most.ensures.0, n.at_most-2.ensures.0, n.at_most-3.ensures.0))))

@@ -7,4 +7,4 @@ use Rattle.luossavin.proofs.journals.luossavin_replay.Tie as tie
 pub luossavin_replay_spec : {M : Type 1} → statement M
 unfolding host_replay
 luossavin_replay_spec = tie.close (tie.spec (λ c. search rules) (λ c. search rules) (λ c. search rules)
-    (λ c. rw (← c.before.before.keys_of.ensures) (c.report_replayed.ensures ∙ ap told_of c.before.replay.ensures)))
+    (λ c. rw (← c.keys_of.ensures) (c.report_replayed.ensures ∙ ap told_of c.replay.ensures)))

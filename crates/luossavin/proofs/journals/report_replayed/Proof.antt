@@ -9,7 +9,7 @@ returns : tie.Need-returns
 unfolding told_of
 returns c =
     let at-number = c.before in
-    let x = at-number.before.before.before.before.before.args.replayed in
+    let x = at-number.args.replayed in
     rw (at-number.number.ensures, mark-byte x.report.first-1.found)
 
 pub report_replayed_spec : {M : Type 1} → statement M

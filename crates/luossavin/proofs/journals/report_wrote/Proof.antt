@@ -6,5 +6,5 @@ use Rattle.luossavin.proofs.journals.report_wrote.Tie as tie
 pub report_wrote_spec : {M : Type 1} → statement M
 report_wrote_spec = tie.close (tie.spec (λ c. search rules) (λ c. search rules) (λ c. search rules) (λ c. search rules)
     (λ c. search rules) (λ c. search rules) (λ c. search rules)
-    (λ c. rw c.before.before.before.wrote-1.given.1 (c.report.ensures ∙ c.before.done.ensures))
-    (λ c. rw c.before.enum_told-1.given.1 c.numbered.ensures) (λ c. rw c.before.enum_told-in-NoRoom-1.given.1 c.numbered-in-NoRoom.ensures))
+    (λ c. rw c.wrote-1.given.1 (c.report.ensures ∙ c.done.ensures))
+    (λ c. rw c.enum_told-1.given.1 c.numbered.ensures) (λ c. rw c.enum_told-in-NoRoom-1.given.1 c.numbered-in-NoRoom.ensures))

@@ -6,4 +6,4 @@ use Rattle.luossavin.proofs.key.cipher_of.Tie as tie
 
 pub cipher_of_spec : {M : Type 1} → statement M
 unfolding cipher_in
-cipher_of_spec = tie.close (tie.spec (λ c. search rules) (λ c. rw c.before.key_answer_of.ensures))
+cipher_of_spec = tie.close (tie.spec (λ c. search rules) (λ c. rw c.key_answer_of.ensures))

@@ -8,8 +8,8 @@ use Rattle.luossavin.proofs.key.luossavin_key_new.Tie as tie
 returns : tie.Need-returns
 unfolding host_key_new key_of
 returns c =
-    let made = c.before.before.before.new-cipher in
-    rw (← made.ensures, c.before.answer_number.ensures, mark-byte made.result.retired)
+    let made = c.new-cipher in
+    rw (← made.ensures, c.answer_number.ensures, mark-byte made.result.retired)
 
 pub luossavin_key_new_spec : {M : Type 1} → statement M
 luossavin_key_new_spec = tie.close (tie.spec (λ c. search rules) (λ c. search rules) (λ c. search rules) returns)

@@ -5,4 +5,4 @@ use Rattle.luossavin.proofs.shelves.luossavin_shelf_collect.Tie as tie
 
 pub luossavin_shelf_collect_spec : {M : Type 1} → statement M
 luossavin_shelf_collect_spec = tie.close (tie.spec (λ c. search rules) (λ c. search rules) (λ c. search rules)
-    (λ c. rw (c.report_kept.ensures.0, c.report_kept.ensures.1) c.before.before.before.collect.ensures))
+    (λ c. rw (c.report_kept.ensures.0, c.report_kept.ensures.1) c.collect.ensures))

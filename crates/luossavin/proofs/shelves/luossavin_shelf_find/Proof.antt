@@ -5,4 +5,4 @@ use Rattle.luossavin.proofs.shelves.luossavin_shelf_find.Tie as tie
 
 pub luossavin_shelf_find_spec : {M : Type 1} → statement M
 luossavin_shelf_find_spec =
-    tie.close (tie.spec (λ c. search rules) (λ c. search rules) (λ c. rw c.number.ensures c.before.find-found.ensures))
+    tie.close (tie.spec (λ c. search rules) (λ c. search rules) (λ c. rw c.number.ensures c.find-found.ensures))

@@ -10,7 +10,7 @@ use Rattle.luossavin.proofs.which.luossavin_which.Tie as tie
 
 cast_t12 : tie.Need-overflow-cast-t12
 cast_t12 c =
-    let found = c.before.before.before.which-found in
+    let found = c.which-found in
     let place : found.result.place < 64 =
     rw (ap (λ (v : Verdict). v.place) found.ensures) (place-below_64 _ _ _ _ _) in
     record { fits = omega (arith, place) }
@@ -24,5 +24,5 @@ luossavin_which_spec =
     let x = c.before in
     let w = x.before.before in
     let found = x.is_candidate in
-    rw (x.before.report_ended.ensures, none_is_done w.which-found.result.ended, mark-byte found.result, found.ensures)
-    (ap told_of w.which-found.ensures ∙ rw w.before.cipher_of.ensures)))
+    rw (x.report_ended.ensures, none_is_done w.which-found.result.ended, mark-byte found.result, found.ensures)
+    (ap told_of w.which-found.ensures ∙ rw w.cipher_of.ensures)))

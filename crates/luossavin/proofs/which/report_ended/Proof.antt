@@ -6,6 +6,6 @@ use Rattle.luossavin.proofs.which.report_ended.Tie as tie
 pub report_ended_spec : {M : Type 1} → statement M
 report_ended_spec = tie.close (tie.spec (λ c. search rules) (λ c. search rules) (λ c. search rules) (λ c. search rules)
     (λ c. search rules) (λ c. search rules) (λ c. search rules) (λ c. search rules) (λ c. search rules)
-    (λ c. rw c.before.enum_told-1.given.1 c.numbered.ensures) (λ c. rw c.before.enum_told-in-None-1.given.1 c.numbered-in-None.ensures)
-    (λ c. rw c.before.enum_told-in-BadList-1.given.1 c.numbered-in-BadList.ensures)
-    (λ c. rw c.before.before.before.ended-1.given.1 (c.report.ensures ∙ c.before.refused.ensures)))
+    (λ c. rw c.enum_told-1.given.1 c.numbered.ensures) (λ c. rw c.enum_told-in-None-1.given.1 c.numbered-in-None.ensures)
+    (λ c. rw c.enum_told-in-BadList-1.given.1 c.numbered-in-BadList.ensures)
+    (λ c. rw c.ended-1.given.1 (c.report.ensures ∙ c.refused.ensures)))

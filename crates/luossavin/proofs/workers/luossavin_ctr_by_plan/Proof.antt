@@ -10,7 +10,7 @@ unfolding host_ctr_by_plan
 returns c =
     let at-work = c.before.before.before in
     let at-way = at-work.before.before in
-    told c.report_ended.ensures (rw (← at-way.direction_of.ensures, ← at-way.before.cipher_of.ensures) at-work.by_plan-done.ensures)
+    told c.report_ended.ensures (rw (← at-way.direction_of.ensures, ← at-way.cipher_of.ensures) at-work.by_plan-done.ensures)
 
 pub luossavin_ctr_by_plan_spec : {M : Type 1} → statement M
 luossavin_ctr_by_plan_spec = tie.close (tie.spec (λ c. search rules) (λ c. search rules) (λ c. search rules) (λ c. search rules)

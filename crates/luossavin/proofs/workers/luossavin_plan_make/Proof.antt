@@ -9,7 +9,7 @@ use Rattle.luossavin.proofs.workers.luossavin_plan_make.Tie as tie
 returns : tie.Need-returns
 unfolding host_plan_make
 returns c =
-    let made = c.before.before.before.make-planned in
+    let made = c.make-planned in
     ap {B = Handed} (λ (h : Head). record { head = h; plan = made.result.plan })
     (c.numbered.ensures ∙ ap {B = Head} refusal c.before.number_of_lem.ensures)
     ∙ ap {B = Handed} (λ (p : Planned). record { head = making_head p.making; plan = p.plan }) made.ensures

@@ -6,6 +6,6 @@ use Rattle.luossavin.proofs.workers.report_ended.Tie as tie
 pub report_ended_spec : {M : Type 1} → statement M
 report_ended_spec = tie.close (tie.spec (λ c. search rules) (λ c. search rules) (λ c. search rules) (λ c. search rules)
     (λ c. search rules) (λ c. search rules) (λ c. search rules) (λ c. search rules)
-    (λ c. rw c.before.before.before.ended-1.given.1 (c.report.ensures ∙ c.before.done.ensures))
-    (λ c. rw c.before.enum_told-1.given.1 c.numbered.ensures)
-    (λ c. rw c.before.before.before.ended-in-Refused-1.given.1 (c.report-in-Refused.ensures ∙ c.before.refused.ensures)))
+    (λ c. rw c.ended-1.given.1 (c.report.ensures ∙ c.done.ensures))
+    (λ c. rw c.enum_told-1.given.1 c.numbered.ensures)
+    (λ c. rw c.ended-in-Refused-1.given.1 (c.report-in-Refused.ensures ∙ c.refused.ensures)))

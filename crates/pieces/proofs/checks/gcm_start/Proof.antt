@@ -6,4 +6,4 @@ use Rattle.pieces.proofs.checks.gcm_start.Tie as tie
 pub gcm_start_spec : {M : Type 1} → statement M
 unfolding gcm_starting
 gcm_start_spec = tie.close (tie.spec (λ c. search rules) (λ c. search rules) (λ c. search rules)
-    (λ c. rw (c.and_then.ensures, c.before.label.ensures, c.before.before.key_and_iv-first.ensures)))
+    (λ c. rw (c.and_then.ensures, c.label.ensures, c.key_and_iv-first.ensures)))

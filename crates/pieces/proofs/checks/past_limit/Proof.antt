@@ -6,7 +6,7 @@ use Rattle.pieces.proofs.checks.past_limit.Tie as tie
 
 pub past_limit_spec : {M : Type 1} → statement M
 past_limit_spec = tie.close (tie.spec
-    (λ c. let a = c.before.args in rw (lt-ltb limit (a.total + a.n) (omega arith)))
-    (λ c. let a = c.before.args in
+    (λ c. let a = c.args in rw (lt-ltb limit (a.total + a.n) (omega arith)))
+    (λ c. let a = c.args in
     by_order (limit - a.total) a.n (λ h. rw (lt-ltb _ _ h, lt-ltb limit (a.total + a.n) (omega arith)))
     (λ h. rw (le-ltb _ _ h, le-ltb limit (a.total + a.n) (omega arith)))))

@@ -8,5 +8,5 @@ unfolding tagged
 tagged_spec = tie.close (tie.spec (λ c. search rules) (λ c. search rules) (λ c. search rules) (λ c. search rules) (λ c. search rules)
     (λ c. search rules)
     (λ c. let at_tag = c.before.before in
-    let missing : 16 - at_tag.before.least.result ≡ 16 - at_tag.before.before.args.tag = omega arith in
-    rw (c.and_then.ensures, c.before.running.ensures, at_tag.refuse-whole.ensures, missing)))
+    let missing : 16 - at_tag.least.result ≡ 16 - at_tag.args.tag = omega arith in
+    rw (c.and_then.ensures, c.running.ensures, at_tag.refuse-whole.ensures, missing)))

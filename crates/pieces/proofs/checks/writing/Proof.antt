@@ -6,4 +6,4 @@ use Rattle.pieces.proofs.checks.writing.Tie as tie
 pub writing_spec : {M : Type 1} → statement M
 unfolding writing
 writing_spec = tie.close (tie.spec (λ c. search rules) (λ c. search rules) (λ c. search rules)
-    (λ c. rw (c.and_then.ensures, c.before.running.ensures, c.before.before.refuse-space.ensures)))
+    (λ c. rw (c.and_then.ensures, c.running.ensures, c.refuse-space.ensures)))

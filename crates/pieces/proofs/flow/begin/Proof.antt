@@ -5,4 +5,4 @@ use Rattle.pieces.proofs.flow.begin.Tie as tie
 
 pub begin_spec : {M : Type 1} → statement M
 begin_spec = tie.close (tie.spec (λ c. search rules) (λ c. search rules)
-    (λ c. rw (c.before.combine_block.ensures, c.ciphered.ensures)))
+    (λ c. rw (c.combine_block.ensures, c.ciphered.ensures)))

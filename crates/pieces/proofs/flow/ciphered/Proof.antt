@@ -6,5 +6,5 @@ use Rattle.pieces.proofs.flow.ciphered.Tie as tie
 
 pub ciphered_spec : {M : Type 1} → statement M
 ciphered_spec = tie.close (tie.spec (λ c. search rules) (λ c. search rules)
-    (λ c. let a = c.before.before.before.args in
-    rw (c.combine_block.ensures, c.before.encrypt.ensures, ciphered-words a.rk a.s (search rules) (λ i. search rules))))
+    (λ c. let a = c.args in
+    rw (c.combine_block.ensures, c.encrypt.ensures, ciphered-words a.rk a.s (search rules) (λ i. search rules))))

@@ -14,7 +14,7 @@ returns : tie.Need-returns-then-data-m
 unfolding flow_next
 returns c =
     let at-pad = c.before.before.before in
-    let a = at-pad.before.before.before.before.before.before.args in
+    let a = at-pad.args in
     let short = text-short a.counting a.rk a.flow a.p (a.«data».now) c.if-data-m.true in
     rw (lt-ltb _ _ c.if-data-m.true, at-pad.xor_pad.ensures, short) (refl, refl)
 

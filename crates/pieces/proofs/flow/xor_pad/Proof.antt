@@ -15,7 +15,7 @@ decreases_loop p d out₀ pad n i₀ out i = n - i
 loop_again : tie.Need-loop-i-preserved invariant_loop decreases_loop
 loop_again c =
     let at_loop = c.before.before in
-    let a = at_loop.before.before.before.before.args in
+    let a = at_loop.args in
     let sixteen : length a.t1 ≡ 16 = search rules in (
       omega arith,
       simp length-set (omega arith),
@@ -25,7 +25,7 @@ loop_again c =
 returns : tie.Need-returns invariant_loop decreases_loop
 returns c =
     let at_loop = c.before in
-    let a = at_loop.before.before.before.before.args in
+    let a = at_loop.args in
     let sixteen : length a.t1 ≡ 16 = search rules in
     let l = at_loop.loop-i in
     pad-reached (a.«data».now) a.t1 (a.out.now) l.out a.p l.i l.invariant.2 (omega arith)

@@ -5,4 +5,4 @@ use Rattle.pieces.proofs.hashing.byte_at.Tie as tie
 
 pub byte_at_spec : {M : Type 1} → statement M
 byte_at_spec = tie.close (tie.spec (λ c. search rules) (λ c. search rules)
-    (λ c. let a = c.before.args in sym (get_or-eq_default (a.«data».now) 0 {n = a.i} (omega arith))))
+    (λ c. let a = c.args in sym (get_or-eq_default (a.«data».now) 0 {n = a.i} (omega arith))))

@@ -5,4 +5,4 @@ use Rattle.pieces.proofs.hashing.bytes_of.Tie as tie
 
 pub bytes_of_spec : {M : Type 1} → statement M
 bytes_of_spec = tie.close (tie.spec (λ c. search rules) (λ c. search rules)
-    (λ c. c.combine_block.ensures ∙ unwords-number _ _ c.before.from_u128.ensures))
+    (λ c. c.combine_block.ensures ∙ unwords-number _ _ c.from_u128.ensures))

@@ -11,7 +11,7 @@ unfolding hash_end
 returns c =
     let at_all = c.before.before in
     let at_y = at_all.before.before.before in
-    let hashed = (absorbed_both _ _ _ _ _ at_all.absorb_all-all.ensures c.before.absorb_lengths-last.ensures).hash in
+    let hashed = (absorbed_both _ _ _ _ _ at_all.absorb_all-all.ensures c.absorb_lengths-last.ensures).hash in
     rw (c.bytes_of.ensures, hashed, sub-zero, at_y.before.number_of_lem.ensures, at_y.number_of-2.ensures)
 
 pub end_spec : {M : Type 1} → statement M

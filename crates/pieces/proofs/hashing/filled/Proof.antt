@@ -16,7 +16,7 @@ decreases_loop p d b₀ i₀ b i = 16 - i
 
 loop_holds : tie.Need-loop-i-init invariant_loop decreases_loop
 loop_holds c =
-    let a = c.before.args in
+    let a = c.args in
     let n : length a.held ≡ 16 = search rules in
     let front = length-take-le a.p a.held (omega arith) in
     let all = filled-front (take a.p a.held ++ a.«data».now) a.p (omega arith) (rw length-append (omega arith)) in
@@ -24,10 +24,10 @@ loop_holds c =
 
 loop_again : tie.Need-loop-i-preserved invariant_loop decreases_loop
 loop_again c =
-    let a = c.before.before.before.before.args in
+    let a = c.args in
     let d = a.«data».now in
     let s = take a.p a.held ++ d in
-    let l = c.before.before.loop-i in
+    let l = c.loop-i in
     let n = filled-length s in
     let text = at-text a.held d a.p l.i l.invariant.2 (omega arith) (omega arith) in
     let byte : c.byte_at.result ≡ get_or (filled_up s) l.i 0 = c.byte_at.ensures ∙ text ∙ sym (filled_at s l.i (omega arith)) in (
@@ -40,9 +40,9 @@ loop_again c =
 
 returns : tie.Need-returns invariant_loop decreases_loop
 returns c =
-    let a = c.before.before.before.args in
+    let a = c.args in
     let s = take a.p a.held ++ a.«data».now in
-    let l = c.before.loop-i in
+    let l = c.loop-i in
     let n = filled-length s in
     rw (take_all l.i (filled_up s) (omega arith), drop_of_length-le a.held {i = l.i} (omega arith), append-nil) at l.invariant.4
 

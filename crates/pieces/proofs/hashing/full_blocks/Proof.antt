@@ -20,7 +20,7 @@ returns c =
     let k = length d - length d % 16 in
     let cut : k ≡ 16 * (length d / 16) = omega arith in
     let hashed = (absorbed_both _ _ _ _ _ at_first.absorb_all-begun.ensures at_all.absorb_all-end.ensures).hash in
-    rw (c.before.before.bytes_of.ensures, hashed, c.filled.ensures, tail_is d k, sub-zero k, cut, full_first _ d (first-length S))
+    rw (c.bytes_of.ensures, hashed, c.filled.ensures, tail_is d k, sub-zero k, cut, full_first _ d (first-length S))
     (rw (begun-behind _ d 1 (first-length S), at_y.before.number_of_lem.ensures, at_y.number_of-2.ensures))
 
 pub full_blocks_spec : {M : Type 1} → statement M

@@ -6,5 +6,5 @@ use Rattle.pieces.proofs.hashing.number_of.Tie as tie
 
 pub number_of_spec : {M : Type 1} → statement M
 number_of_spec = tie.close (tie.spec (λ c. search rules) (λ c. search rules) (λ c. search rules)
-    (λ c. let b = c.before.before.before.args.b in
-    rw (c.to_u128.ensures, c.before.split_block.ensures, spelt b (search rules, λ i. search rules))))
+    (λ c. let b = c.args.b in
+    rw (c.to_u128.ensures, c.split_block.ensures, spelt b (search rules, λ i. search rules))))

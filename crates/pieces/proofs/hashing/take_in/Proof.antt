@@ -21,7 +21,7 @@ returns c =
     let n = (held S).0 in
     let p = length-take-le a.p a.g.held-1 (omega arith) in
     let low : length (take a.p a.g.held-1 ++ a.«data».now) < 16 = rw length-append (omega arith) in
-    rw c.before.filled-first.ensures (held_within _ _ _ low (y S).0 (are_bytes a.g.y-1 (y S)))
+    rw c.filled-first.ensures (held_within _ _ _ low (y S).0 (are_bytes a.g.y-1 (y S)))
 
 returns_2 : tie.Need-returns
 unfolding hash_next

@@ -17,7 +17,7 @@ returns c =
     let S = at-mask.before.before.before in
     let mask = S.args.mask in
     let hash = S.args.hash in
-    c.is_tag.ensures ∙ rw (c.before.block_xor-expected.ensures, at-mask.split_block.ensures, at-hash.split_block-2.ensures)
+    c.is_tag.ensures ∙ rw (c.block_xor-expected.ensures, at-mask.split_block.ensures, at-hash.split_block-2.ensures)
     (rw (unwords-xors (words mask) (words hash) (length-words mask) (length-words hash), spelt mask (mask_is S), spelt hash (hash_is S)))
 
 pub same_tag_spec : {M : Type 1} → statement M

@@ -13,17 +13,17 @@ returns_2 c =
     let at-check = told.before.before in
     let begun = at-begin.begin-begun.ensures.1 in
     rw (← at-check.gcm_start-checked.ensures, told.enum_told-1.given.1, c.done.ensures, begun.0, begun.1.0, begun.1.1)
-    (rw at-check.before.number_in-key.ensures)
+    (rw at-check.number_in-key.ensures)
 
 pub start_spec : {M : Type 1} → statement M
 unfolding opens_start
 start_spec = tie.close (tie.spec (λ c. search rules) (λ c. search rules) (λ c. search rules) (λ c. search rules) (λ c. search rules)
     (λ c. search rules)
     (λ c. let told = c.before.before.before.before in
-    rw (← told.before.before.gcm_start-checked.ensures, told.checked-1.given.1, c.before.before.refused.ensures, c.shut.ensures)
-    (rw (c.before.number.ensures, told.before.before.before.number_in-key.ensures)))
+    rw (← told.gcm_start-checked.ensures, told.checked-1.given.1, c.refused.ensures, c.shut.ensures)
+    (rw (c.number.ensures, told.number_in-key.ensures)))
     (λ c. search rules) (λ c. search rules) (λ c. search rules) (λ c. search rules) (λ c. search rules)
     (λ c. let told = c.before.before.before.before.before in
-    let iv = (starting_passed _ _ _ _ _ (sym told.before.before.gcm_start-checked.ensures ∙ told.enum_told-1.given.1)).taken in
+    let iv = (starting_passed _ _ _ _ _ (sym told.gcm_start-checked.ensures ∙ told.enum_told-1.given.1)).taken in
     (c.lent.ensures.0, iv_twelve_or_sixteen _ iv))
     (λ c. search rules) returns_2)

@@ -5,4 +5,4 @@ use Rattle.pieces.proofs.seal.shut.Tie as tie
 
 pub shut_spec : {M : Type 1} → statement M
 unfolding seal_shut
-shut_spec = tie.close (tie.spec (λ c. search rules) (λ c. search rules) (λ c. rw (c.before.none.ensures, c.none-2.ensures)))
+shut_spec = tie.close (tie.spec (λ c. search rules) (λ c. search rules) (λ c. rw (c.none.ensures, c.none-2.ensures)))

@@ -9,9 +9,9 @@ returns c =
     let at-counter = c.before.before in
     let w = at-counter.first_counter_lem.result in
     let word : Fits w32 (get_or w 3 0) = search rules in
-    rw (← last-four w word.fits, c.before.begin.ensures, c.ciphered.ensures, at-counter.first_counter_lem.ensures)
-    (rw at-counter.before.hash_key-h.ensures (refl, (refl, (refl, refl))))
+    rw (← last-four w word.fits, c.begin.ensures, c.ciphered.ensures, at-counter.first_counter_lem.ensures)
+    (rw at-counter.hash_key-h.ensures (refl, (refl, (refl, refl))))
 
 pub begin_spec : {M : Type 1} → statement M
-begin_spec = tie.close (tie.spec (λ c. search rules) (λ c. c.before.before.before.before.requires.1) (λ c. search rules)
+begin_spec = tie.close (tie.spec (λ c. search rules) (λ c. c.requires.1) (λ c. search rules)
     (λ c. search rules) (λ c. search rules) returns)

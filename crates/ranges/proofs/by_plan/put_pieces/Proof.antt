@@ -32,13 +32,13 @@ sixty_four s = (search rules, search rules)
 
 -- what the pieces to come say of the next one
 turn : (x : tie.In-loop-i invariant_loop decreases_loop)
-    → let l = x.before.loop-i in
-    let a = x.before.before.before.before.before.before.before.before.args in
+    → let l = x.loop-i in
+    let a = x.args in
     let p = a.plan in
     First l.at (length (a.«data».now)) (get_or p.starts-1 l.i 0) (get_or p.lengths-1 l.i 0)
     (drop (l.i + 1) (take p.count p.starts-1)) (drop (l.i + 1) (take p.count p.lengths-1))
 turn x =
-    let l = x.before.loop-i in
+    let l = x.loop-i in
     let S = x.before.before.before.before.before.before.before.before in
     let a = S.args in
     let n = sixty_four S in
@@ -48,7 +48,7 @@ turn x =
 put-stretch_requires : tie.Need-put_stretch-requires invariant_loop decreases_loop
 put-stretch_requires c =
     let tested = c.before.before in
-    let l = tested.before.loop-i in
+    let l = tested.loop-i in
     let S = tested.before.before.before.before.before.before.before.before in
     let d = S.args.«data».now in
     let size = get_or S.args.plan.lengths-1 l.i 0 in
@@ -61,8 +61,8 @@ loop_again : tie.Need-loop-i-preserved invariant_loop decreases_loop
 loop_again c =
     let at-put = c.before.before in
     let tested = at-put.before.before.before in
-    let l = tested.before.loop-i in
-    let a = tested.before.before.before.before.before.before.before.before.args in
+    let l = tested.loop-i in
+    let a = tested.args in
     let n = get_or a.plan.lengths-1 l.i 0 in
     let inv = l.invariant in
     let on = turn tested in
@@ -77,7 +77,7 @@ loop_again c =
 
 returns : tie.Need-returns invariant_loop decreases_loop
 returns c =
-    let l = c.before.loop-i in
+    let l = c.loop-i in
     let S = c.before.before.before.before.before.before.before.before in
     let a = S.args in
     let d = a.«data».now in

@@ -21,15 +21,15 @@ sixty_four s = (search rules, search rules)
 
 -- the test of the piece at this turn decides, and one that it lets through lies within n
 turn : (x : tie.After-is_piece invariant_loop decreases_loop)
-    → let l = x.before.before.loop-i in
-    let a = x.before.before.before.before.before.before.args in
+    → let l = x.loop-i in
+    let a = x.args in
     let p = a.plan in
     let end = l.at + get_or p.lengths-1 l.i 0 in
     (cond x.is_piece.result (follows_from p.starts-1 p.lengths-1 p.count a.n (l.i + 1) end) false
     ≡ follows_from p.starts-1 p.lengths-1 p.count a.n 0 0)
     × (x.is_piece.result ≡ true → end ≤ a.n)
 turn x =
-    let l = x.before.before.loop-i in
+    let l = x.loop-i in
     let S = x.before.before.before.before.before.before in
     let p = S.args.plan in
     let n = S.args.n in
@@ -41,26 +41,26 @@ turn x =
       λ e. piece-fits p.starts-1 p.lengths-1 p.count l.i l.at n starts lengths (omega arith) (omega arith) (sym is ∙ e),
     )
 
-passed : (x : tie.Else-not-is_piece invariant_loop decreases_loop) → x.before.is_piece.result ≡ true
-passed x = not-false x.before.is_piece.result x.if-not-is_piece.false
+passed : (x : tie.Else-not-is_piece invariant_loop decreases_loop) → x.is_piece.result ≡ true
+passed x = not-false x.is_piece.result x.if-not-is_piece.false
 
 returns_2 : tie.Need-returns-then-not-is_piece invariant_loop decreases_loop
 unfolding accepts
 returns_2 c =
-    let p = c.before.before.before.before.before.before.before.args.plan in
-    rw (le-leb p.count 64 c.before.before.before.loop-i.invariant.0, ← (turn c.before).0)
-    (rw (not-true c.before.is_piece.result c.if-not-is_piece.true))
+    let p = c.args.plan in
+    rw (le-leb p.count 64 c.loop-i.invariant.0, ← (turn c.before).0)
+    (rw (not-true c.is_piece.result c.if-not-is_piece.true))
 
 loop_again : tie.Need-loop-i-preserved invariant_loop decreases_loop
 loop_again c =
-    let inv = c.before.before.before.loop-i.invariant in
+    let inv = c.loop-i.invariant in
     let on = turn c.before in
     (inv.0, on.1 (passed c), omega arith, rw (passed c) at on.0)
 
 returns_3 : tie.Need-returns invariant_loop decreases_loop
 unfolding accepts
 returns_3 c =
-    let l = c.before.loop-i in
+    let l = c.loop-i in
     let S = c.before.before.before.before.before in
     let p = S.args.plan in
     let end = ends p.starts-1 p.lengths-1 p.count l.i l.at _ (omega (arith, (sixty_four S).0)) (omega arith) in

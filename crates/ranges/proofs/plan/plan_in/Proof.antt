@@ -19,22 +19,22 @@ decreases_loop n size starts₀ lengths₀ count₀ at₀ i₀ starts lengths co
 
 loop_again : tie.Need-loop-i-preserved invariant_loop decreases_loop
 loop_again c =
-    let l = c.before.before.before.before.loop-i in
-    let a = c.before.before.before.before.before.args in (
+    let l = c.loop-i in
+    let a = c.args in (
       omega arith,
       omega arith,
       omega arith,
       length-set l.starts l.i _ ∙ l.invariant.3,
       length-set l.lengths l.i _ ∙ l.invariant.4,
       laid_more a.n a.size l.count l.starts l.lengths l.at l.i l.invariant.3 l.invariant.4 (omega arith) _ _ _
-          c.begins-count.ensures.0 c.before.before.start_at.ensures c.before.length_at.ensures
+          c.begins-count.ensures.0 c.start_at.ensures c.length_at.ensures
           ∙ l.invariant.5,
     )
 
 returns : tie.Need-returns invariant_loop decreases_loop
 returns c =
-    let l = c.before.loop-i in
-    let a = c.before.before.args in
+    let l = c.loop-i in
+    let a = c.args in
     laid_all a.n a.size l.count l.starts l.lengths l.at l.i l.invariant.3 l.invariant.4 (omega arith) ∙ l.invariant.5
 
 pub plan_in_spec : {M : Type 1} → statement M

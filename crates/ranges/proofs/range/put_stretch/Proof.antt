@@ -17,7 +17,7 @@ returns c =
     let small : (i : ℕ) → get_or iv i 0 < 256 = λ i. omega (arith, at-iv.shared_slice_known-2-1.given i) in
     let is_iv = spelled iv _ S.pre.1.0 small at_split.split_block.ensures in
     let stretched = jumped a.rk iv (a.«data».now) a.offset S.pre.1.0 (below_each 256 iv small) in
-    rw (at-run.run.ensures.1, at-begin.begin-begun.ensures, at-begin.before.jump-first.ensures, is_iv, stretched)
+    rw (at-run.run.ensures.1, at-begin.begin-begun.ensures, at-begin.jump-first.ensures, is_iv, stretched)
 
 pub put_stretch_spec : {M : Type 1} → statement M
 put_stretch_spec = tie.close (tie.spec (λ c. search rules) (λ c. search rules) (λ c. search rules)

@@ -8,12 +8,12 @@ use Rattle.ranges.proofs.range.range.Tie as tie
 
 -- all checks together are the definition's
 checks : (x : tie.After-and_then-checked)
-    → let a = x.before.before.before.before.before.before.before.args in
+    → let a = x.args in
     x.and_then-checked.result
     ≡ range_check a.cipher.answer a.cipher.retired a.direction (length (a.iv.now)) a.offset (length (a.«data».now))
     (length (a.out-1.now))
 unfolding range_check
-checks x = rw (x.and_then-checked.ensures, x.before.refuse-room.ensures, x.before.before.reach-reached.ensures)
+checks x = rw (x.and_then-checked.ensures, x.refuse-room.ensures, x.reach-reached.ensures)
 
 returns_2 : tie.Need-returns
 unfolding range_call
@@ -21,7 +21,7 @@ returns_2 c =
     let at-work = c.before.before.before in
     let told = at-work.before.before.before in
     let at-number = told.before.before.before.before.before in
-    let a = at-number.before.before.before.before.args in
+    let a = at-number.args in
     rw (← checks told.before.before, told.enum_told-1.given.1, c.done.ensures, at-work.stretch_by.ensures)
     (rw (length-stretch a.cipher.rk-1 (a.iv.now) a.offset (a.«data».now), at-number.number_in-key.ensures))
 
@@ -30,7 +30,7 @@ unfolding range_call
 range_spec = tie.close (tie.spec (λ c. search rules) (λ c. search rules) (λ c. search rules) (λ c. search rules) (λ c. search rules)
     (λ c. search rules)
     (λ c. let told = c.before.before in rw (← checks told.before.before, told.checked-1.given.1, c.refused.ensures)
-    (rw told.before.before.before.before.before.number_in-key.ensures))
+    (rw told.number_in-key.ensures))
     (λ c. search rules)
     (λ c. let told = c.before.before in range_passed _ _ _ _ _ _ _ (sym (checks told.before.before) ∙ told.enum_told-1.given.1))
     (λ c. search rules)

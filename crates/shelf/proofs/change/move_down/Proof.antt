@@ -27,7 +27,7 @@ moved s to from n h k =
 loop_again : tie.Need-loop-i-preserved invariant_loop decreases_loop
 loop_again c =
     let l = c.before.before in
-    let a = l.before.args in
+    let a = l.args in
     let i = l.loop-i.i in
     let m = a.n - (i + 1) in
     let n : a.n - i ≡ suc m = omega arith in
@@ -44,6 +44,6 @@ move_down_spec =
     (λ c. omega arith) (λ c. omega arith) (λ c. omega arith) (λ c. omega arith) loop_again (λ c. omega arith)
     (λ c.
     let l = c.before in
-    let a = l.before.args in
+    let a = l.args in
     let z : a.n - l.loop-i.i ≡ 0 = omega arith in
     paste-zero l.loop-i.shelf (a.to + l.loop-i.i) (drop (a.from + l.loop-i.i) l.loop-i.shelf) ∙ (rw z at l.loop-i.invariant.2)))

@@ -12,6 +12,6 @@ write_spec =
     let s = c.before.before in
     let h = s.before.before.before.before in
     let m = h.before.before.before in
-    let a = m.before.before.before.args in
+    let a = m.args in
     record_written a.job a.edition (a.sealed.now) m.new_head-head.result (a.out-1.now) _ _ m.new_head-head.ensures
     h.copy.ensures.1 s.copy2.ensures.1))

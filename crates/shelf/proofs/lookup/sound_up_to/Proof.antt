@@ -13,21 +13,21 @@ decreases_loop s at₀ at = length s - at
 
 turn : (x : tie.Else-n-eq0 invariant_loop decreases_loop)
     → let l = x.before.before.before in
-    let s = l.before.before.args.s.now in Turn s (length s) l.loop-h.at x.before.front-h.result
-turn x = on _ _ _ _ x.before.front-h.ensures x.if-n-eq0.false
+    let s = l.args.s.now in Turn s (length s) l.loop-h.at x.front-h.result
+turn x = on _ _ _ _ x.front-h.ensures x.if-n-eq0.false
 
 pub sound_up_to_spec : {M : Type 1} → statement M
 sound_up_to_spec =
-    tie.close (tie.spec invariant_loop decreases_loop (λ c. passing_starts (c.before.args.s.now)) (λ c. omega arith) (λ c. omega arith)
+    tie.close (tie.spec invariant_loop decreases_loop (λ c. passing_starts (c.args.s.now)) (λ c. omega arith) (λ c. omega arith)
     (λ c. omega arith) (λ c. search rules)
-    (λ c. passed_all c.before.before.before.loop-h.invariant c.before.front-h.ensures c.if-n-eq0.true)
+    (λ c. passed_all c.loop-h.invariant c.front-h.ensures c.if-n-eq0.true)
     (λ c. omega arith)
     (λ c.
     let e = c.before.before in
-    second e.before.before.before.loop-h.invariant (turn e) (sym c.before.is_second.ensures ∙ c.if-is_second.true))
+    second e.loop-h.invariant (turn e) (sym c.is_second.ensures ∙ c.if-is_second.true))
     (λ c. omega (arith, turn c.before.before)) (λ c. omega (arith, turn c.before.before))
     (λ c.
     let e = c.before.before in
     let l = e.before.before.before in
-    let small = below_each 256 (l.before.before.args.s.now) (λ k. omega (arith, l.before.shared_slice_known-1.given k)) in
-    passing_on l.loop-h.invariant (turn e) small (sym c.before.is_second.ensures ∙ c.if-is_second.false)))
+    let small = below_each 256 (l.args.s.now) (λ k. omega (arith, l.shared_slice_known-1.given k)) in
+    passing_on l.loop-h.invariant (turn e) small (sym c.is_second.ensures ∙ c.if-is_second.false)))

@@ -14,8 +14,8 @@ decreases_loop s used job edition at₀ start₀ length₀ reached₀ kept₀ at
 
 turn : (x : tie.Else-n-eq0 invariant_loop decreases_loop)
     → let l = x.before.before.before in
-    let a = l.before.before.args in Turn (a.shelf.now) a.used l.loop-h.at x.before.front-h.result
-turn x = on _ _ _ _ x.before.front-h.ensures x.if-n-eq0.false
+    let a = l.args in Turn (a.shelf.now) a.used l.loop-h.at x.front-h.result
+turn x = on _ _ _ _ x.front-h.ensures x.if-n-eq0.false
 
 loop_again : tie.Need-loop-h-preserved invariant_loop decreases_loop
 loop_again c =
@@ -24,12 +24,12 @@ loop_again c =
     let l = r.before.before in
     let i = l.before in
     let e = i.before in
-    counting_on e.before.before.before.loop-h.invariant (turn e) i.is_current_of.ensures l.add-length.ensures r.before.add-start.ensures
-    r.reaches.ensures k.add-reached.ensures c.before.stays.ensures c.add-kept.ensures
+    counting_on e.loop-h.invariant (turn e) i.is_current_of.ensures l.add-length.ensures r.add-start.ensures
+    r.reaches.ensures k.add-reached.ensures c.stays.ensures c.add-kept.ensures
 
 pub survey_spec : {M : Type 1} → statement M
 survey_spec = tie.close (tie.spec invariant_loop decreases_loop (λ c. counting_starts _ _ _ _) (λ c. omega arith) (λ c. omega arith) (λ c. omega arith)
-    (λ c. search rules) (λ c. counted c.before.before.before.loop-h.invariant c.before.front-h.ensures c.if-n-eq0.true)
+    (λ c. search rules) (λ c. counted c.loop-h.invariant c.front-h.ensures c.if-n-eq0.true)
     (λ c. search rules) (λ c. omega (arith, turn c.before)) (λ c. omega (arith, turn c.before.before))
     (λ c. search rules) (λ c. omega (arith, turn c.before.before.before.before)) (λ c. search rules)
     (λ c. omega (arith, turn c.before.before.before.before.before.before))

@@ -6,4 +6,4 @@ use Rattle.shelf.proofs.records.new_head.Tie as tie
 pub new_head_spec : {M : Type 1} → statement M
 new_head_spec = tie.close (tie.spec (λ c. search rules) (λ c. search rules) (λ c. search rules) (λ c. search rules)
     (λ c. search rules) (λ c. search rules) (λ c. search rules) (λ c. search rules) (λ c. search rules) (λ c. search rules)
-    (λ c. search rules) (λ c. search rules) (λ c. unfold label_of bytes_of in rw (c.before.label-l.ensures, c.split-b.ensures)))
+    (λ c. search rules) (λ c. search rules) (λ c. unfold label_of bytes_of in rw (c.label-l.ensures, c.split-b.ensures)))

@@ -4,6 +4,6 @@ use Rattle.shelf.proofs.records.stays.Statement.{statement}
 use Rattle.shelf.proofs.records.stays.Tie as tie
 
 pub stays_spec : {M : Type 1} → statement M
-stays_spec = tie.close (tie.spec (λ c. rw (not-true c.before.args.coming c.if-not-coming.true))
-    (λ c. rw (not-false c.before.before.before.args.coming c.before.before.if-not-coming.false, eq-eqb _ _ c.if-h-job.true))
-    (λ c. rw (not-false c.before.before.before.args.coming c.before.before.if-not-coming.false, ne_eqb _ _ c.if-h-job.false)))
+stays_spec = tie.close (tie.spec (λ c. rw (not-true c.args.coming c.if-not-coming.true))
+    (λ c. rw (not-false c.args.coming c.if-not-coming.false, eq-eqb _ _ c.if-h-job.true))
+    (λ c. rw (not-false c.args.coming c.if-not-coming.false, ne_eqb _ _ c.if-h-job.false)))

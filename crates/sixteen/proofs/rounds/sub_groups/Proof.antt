@@ -14,7 +14,7 @@ sub_groups_spec = tie.close (tie.spec
     let at-pairs = at-sub.before in
     let at_loop = at-pairs.before.before in
     let l = at_loop.loop-g in
-    let t = at_loop.before.args.t.now in
+    let t = at_loop.args.t.now in
     let g = l.g in
     let f : ℕ → ℕ = λ j. tau (get_or t j 0) in
     let halves : Halves f g at-sub.sub_bytes-z.result =
@@ -27,4 +27,4 @@ sub_groups_spec = tie.close (tie.spec
     let e : 16 * g + 2 * i ≡ k = omega arith in
     (rw (e, low_half z _ _ p.1 b), rw (e, high_half z _ _ p.1 b)) in
     (omega arith, c.put_group.ensures.1, λ j h. c.put_group.ensures.0 f l.invariant.2 halves j (omega arith)))
-    (λ c. let l = c.before.loop-g in (λ j h. l.invariant.2 j (omega arith), l.invariant.1)))
+    (λ c. let l = c.loop-g in (λ j h. l.invariant.2 j (omega arith), l.invariant.1)))

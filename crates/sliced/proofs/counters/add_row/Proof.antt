@@ -11,7 +11,7 @@ add_row_spec = tie.close (next16 (next16 tie.spec (omega arith)) (omega arith)
     let at7 = c.before.before in
     let at4 = at7.before.before.before.before.before.before.before.before.before in
     let at1 = at4.before.before.before.before.before.before.before.before.before in
-    let i = at1.before.before.before.requires.0 in
+    let i = at1.requires.0 in
     (omega arith, at7.add_at-7.ensures.size))
     (λ c. search rules)
     (λ c.

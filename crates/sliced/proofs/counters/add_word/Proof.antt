@@ -33,7 +33,7 @@ add_word_spec = tie.close (tie.spec
     let a = S.args in
     let R = c.add_row-in-loop-i-2.ensures in
     let P = l.invariant.5 a.x.now a.y at_loop.loop-i.invariant.4 in
-    let past = at-loop2.before.loop-i-test.false in (
+    let past = at-loop2.loop-i-test.false in (
       omega arith,
       omega arith,
       R.size_x,
@@ -45,8 +45,8 @@ add_word_spec = tie.close (tie.spec
           (l.invariant.5 x₀ y₀ Q) R,
     ))
     (λ c.
-    let l = c.before.loop-i-2 in
+    let l = c.loop-i-2 in
     let at_loop = c.before.before.before in
-    let a = at_loop.before.before.before.args in
+    let a = at_loop.args in
     let h : a.w < 2 ^ 32 = search rules in
     (rippled_last a.w l.i _ _ _ _ (omega arith) h (l.invariant.5 a.x.now a.y at_loop.loop-i.invariant.4), l.invariant.2)))

@@ -8,9 +8,9 @@ use Rattle.sliced.proofs.counters.count.Tie as tie
 pub count_spec : {M : Type 1} → statement M
 count_spec = tie.close (tie.spec
     (λ c. search rules) (λ c. search rules) (λ c. search rules) (λ c. search rules) (λ c. search rules)
-    (λ c. search (rules, c.before.before.before.before.before.before.requires.2.1)) (λ c. search rules)
-    (λ c. search (rules, c.before.before.before.before.before.before.before.before.requires.1.1)) (λ c. search rules)
-    (λ c. search (rules, c.before.before.before.before.before.before.before.before.before.before.requires.0.1))
+    (λ c. search (rules, c.requires.2.1)) (λ c. search rules)
+    (λ c. search (rules, c.requires.1.1)) (λ c. search rules)
+    (λ c. search (rules, c.requires.0.1))
     (λ c.
     let W0 = c.add_word in
     let at1 = c.before.before in

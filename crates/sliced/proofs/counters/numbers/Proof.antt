@@ -11,14 +11,14 @@ numbers_spec = tie.close (tie.spec
     (λ x₀ p₀ x p. 72 - p) (λ c. search (rules, numbered-first)) (λ c. search rules) (λ c. search rules) (λ c. search rules)
     (λ c. search rules) (λ c. search rules) (λ c. search rules)
     (λ c.
-    let l = c.before.loop-p in
+    let l = c.loop-p in
     (omega arith, numbered_next l.p _ l.x (omega arith) (low_rows l.p (omega arith)) l.invariant.1))
     (λ c. search rules) (λ c. search rules) (λ c. search rules) (λ c. search rules) (λ c. search rules) (λ c. search rules)
     (λ c. search rules)
     (λ c.
-    let l = c.before.before.loop-p-2 in
+    let l = c.loop-p-2 in
     let next = numbered_next l.p _ l.x (omega arith) (high_rows l.p _ l.invariant.0 c.spread.ensures) l.invariant.2 in
     (omega arith, omega arith, next))
     (λ c.
-    let l = c.before.loop-p-2 in
+    let l = c.loop-p-2 in
     (numbered-last l.x l.p (omega arith) l.invariant.2, (l.invariant.2.0, λ q h. l.invariant.2.2 q (omega arith)))))

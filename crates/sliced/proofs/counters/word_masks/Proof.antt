@@ -8,4 +8,4 @@ word_masks_spec = tie.close (tie.spec
     (λ k m₀ i₀ m i. (i ≤ 32) × (length m ≡ 32) × Masks i (λ n. bit n k) m) (λ k m₀ i₀ m i. 32 - i) (λ c. search rules)
     (λ c. search rules) (λ c. search rules) (λ c. search rules) (λ c. search rules) (λ c. search rules)
     (λ c. search (rules, masks-next))
-    (λ c. let l = c.before.loop-i in let e : l.i ≡ 32 = omega arith in (rw e at l.invariant.2, l.invariant.1)))
+    (λ c. let l = c.loop-i in let e : l.i ≡ 32 = omega arith in (rw e at l.invariant.2, l.invariant.1)))

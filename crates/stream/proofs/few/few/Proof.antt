@@ -17,11 +17,11 @@ returns c =
     let n = at_count.ciphered.ensures in
     let laid = at-lay.lay.ensures a.rk in
     let done = at-encrypt.encrypt.ensures in
-    let xored = rw (sub-zero (16 * a.m)) at at-block-at.before.before.before.before.xor_bytes.ensures in
+    let xored = rw (sub-zero (16 * a.m)) at at-block-at.xor_bytes.ensures in
     let s = unwords a.iv in
     let written = few-written a.kind a.rk s d a.m S.requires.1.1.0 _ _ _ _ laid done n.0 (a.out-1.now) _ xored in
     let pad = few-pad a.kind a.rk s d a.m S.requires.1.1.0 _ _ _ _ laid done in
-    let read = c.combine_block.ensures ∙ c.before.block_at-2.ensures in
+    let read = c.combine_block.ensures ∙ c.block_at-2.ensures in
     (at-block-at.block_at.ensures ∙ laid a.m (omega arith), (λ e. read ∙ pad (n.1 e), written))
 
 pub few_spec : {M : Type 1} → statement M

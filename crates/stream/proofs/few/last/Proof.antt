@@ -10,8 +10,8 @@ use Rattle.stream.proofs.few.last.Tie as tie
 returns : tie.Need-returns
 returns c =
     let at-few = c.before.before.before.before.before.before.before.before.before in
-    let needed = at-few.before.before.pad_needed in
-    let a = at-few.before.before.before.before.before.args in
+    let needed = at-few.pad_needed in
+    let a = at-few.args in
     let d = a.«data».now in
     let m = length d / 16 in
     let h : 16 * m ≤ length d = omega arith in
@@ -21,11 +21,11 @@ returns c =
     let pad : needed.result ≡ true → f.result.pad-1 ≡ encrypt_block a.rk (unwords f.result.state) =
     λ e. x.1.0 e ∙ ap (encrypt_block a.rk) (sym x.0) in
     let rest = rest-xored _ (tailed (16 * m) d) _ _ pad (λ e. omega (arith, length_tailed d (16 * m), needed.ensures.1 e)) in
-    ended a.kind a.rk done _ _ _ (omega arith) (λ e. pad (needed.ensures.0 e)) (rw rest at c.before.before.xor_bytes.ensures)
+    ended a.kind a.rk done _ _ _ (omega arith) (λ e. pad (needed.ensures.0 e)) (rw rest at c.xor_bytes.ensures)
 
 pub last_spec : {M : Type 1} → statement M
 last_spec = tie.close (tie.spec (λ c. search rules) (λ c. search rules) (λ c. search rules) (λ c. search rules) (λ c. search rules)
     (λ c. search rules) (λ c. search rules) (λ c. search rules) (λ c. search rules) (λ c. search rules)
-    (λ c. let p : length c.before.before.before.before.before.before.few-end.result.pad-1 ≡ 16 = search rules in
+    (λ c. let p : length c.few-end.result.pad-1 ≡ 16 = search rules in
     (omega arith, omega arith))
     (λ c. search rules) returns)

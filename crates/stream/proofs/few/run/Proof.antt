@@ -13,9 +13,9 @@ decreases_loop rk kind on d out₀ s₀ at₀ out s at = length d - at
 
 loop_again : tie.Need-loop-at-preserved invariant_loop decreases_loop
 loop_again c =
-    let l = c.before.before.before.before.before.before.before.loop-at in
-    let a = c.before.before.before.before.before.before.before.before.before.before.args in
-    let x = rw (tail_is (a.«data».now) l.at) at c.before.before.before.few-end.ensures in
+    let l = c.loop-at in
+    let a = c.args in
+    let x = rw (tail_is (a.«data».now) l.at) at c.few-end.ensures in
     blocks_on a.kind a.rk l.invariant 64 _ _ (omega arith) (omega arith) x.0 x.1.1
 
 pub run_spec : {M : Type 1} → statement M
@@ -31,5 +31,5 @@ run_spec = tie.close (tie.spec invariant_loop decreases_loop (λ c. reached-firs
     (λ c. omega arith) (λ c. omega arith) loop_again (λ c. omega arith) (λ c. omega arith) (λ c. omega arith) (λ c. omega arith)
     (λ c. omega arith) (λ c. omega arith)
     (λ c. (search rules, (omega arith, omega arith))) (λ c. omega arith)
-    (λ c. let a = c.before.before.before.before.before.before.before.before.before.args in
-    onward a.kind a.rk c.before.before.before.before.before.before.loop-at.invariant _ _ _ _ c.before.before.new.ensures))
+    (λ c. let a = c.args in
+    onward a.kind a.rk c.loop-at.invariant _ _ _ _ c.before.before.new.ensures))

@@ -14,14 +14,14 @@ returns_2 c =
     let at-round = c.before.before in
     let told = at-round.before.before.before.before in
     let at-check = told.before.before in
-    let is-first = spelt at-check.before.args.self.first-1 (first at-check.before) in
-    rw (← at-check.running-checked.ensures, told.enum_told-1.given.1, c.before.done_round.ensures, at-round.ctr_came_round-came_round.ensures)
-    (rw (at-round.before.split_block.ensures, is-first, c.shut.ensures))
+    let is-first = spelt at-check.args.self.first-1 (first at-check.before) in
+    rw (← at-check.running-checked.ensures, told.enum_told-1.given.1, c.done_round.ensures, at-round.ctr_came_round-came_round.ensures)
+    (rw (at-round.split_block.ensures, is-first, c.shut.ensures))
 
 pub end_spec : {M : Type 1} → statement M
 unfolding ctr_end
 end_spec = tie.close (tie.spec (λ c. search rules) (λ c. search rules) (λ c. search rules)
-    (λ c. let told = c.before.before in rw (← told.before.before.running-checked.ensures, told.checked-1.given.1, c.refused.ensures))
+    (λ c. let told = c.before.before in rw (← told.running-checked.ensures, told.checked-1.given.1, c.refused.ensures))
     (λ c. search rules) (λ c. search rules) (λ c. let n = (first c.before.before.before.before.before).0 in omega arith)
     (λ c. search rules)
     (λ c. search rules) (λ c. search rules) returns_2)

@@ -5,16 +5,16 @@ use Rattle.pieces.proofs.ctr.Ctr.piece.Statement.{statement}
 use Rattle.pieces.proofs.ctr.Ctr.piece.Tie as tie
 
 passed : (x : tie.In_default)
-    → let a = x.before.before.before.before.before.args in
+    → let a = x.args in
     Runs a.self.stands 0 a.self.total (length (a.«data».now)) × (length (a.«data».now) ≤ length (a.out-1.now))
-passed x = writing_passed _ _ _ _ _ _ (sym x.before.before.writing-checked.ensures ∙ x.enum_told-1.given.1)
+passed x = writing_passed _ _ _ _ _ _ (sym x.writing-checked.ensures ∙ x.enum_told-1.given.1)
 
 pub piece_spec : {M : Type 1} → statement M
 unfolding ctr_piece
 piece_spec = tie.close (tie.spec (λ c. search rules) (λ c. search rules) (λ c. search rules)
-    (λ c. let told = c.before.before in rw (← told.before.before.writing-checked.ensures, told.checked-1.given.1, c.refused.ensures))
+    (λ c. let told = c.before.before in rw (← told.writing-checked.ensures, told.checked-1.given.1, c.refused.ensures))
     (λ c. search rules) (λ c. (mod-lt _ (lit< tt), (passed c.before.before.before.before).1))
     (λ c. sum_fits (passed c.before.before.before.before.before.before.before).0) (λ c. search rules) (λ c. search rules)
-    (λ c. let ran = c.before.before.before.run_by-next.ensures in
+    (λ c. let ran = c.run_by-next.ensures in
     let told = c.before.before.before.before.before.before.before.before in
-    rw (← told.before.before.writing-checked.ensures, told.enum_told-1.given.1, c.done.ensures, ran.0, ran.1)))
+    rw (← told.writing-checked.ensures, told.enum_told-1.given.1, c.done.ensures, ran.0, ran.1)))

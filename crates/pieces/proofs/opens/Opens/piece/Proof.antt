@@ -7,10 +7,10 @@ use Rattle.pieces.proofs.opens.Opens.piece.Tie as tie
 pub piece_spec : {M : Type 1} → statement M
 unfolding opens_piece
 piece_spec = tie.close (tie.spec (λ c. search rules) (λ c. search rules) (λ c. search rules)
-    (λ c. let told = c.before.before in rw (← told.before.before.running-checked.ensures, told.checked-1.given.1, c.refused.ensures))
+    (λ c. let told = c.before.before in rw (← told.running-checked.ensures, told.checked-1.given.1, c.refused.ensures))
     (λ c. search rules) (λ c. search rules)
     (λ c. let told = c.before.before.before in
-    sum_fits (running_passed _ _ _ _ (sym told.before.before.running-checked.ensures ∙ told.enum_told-1.given.1)))
+    sum_fits (running_passed _ _ _ _ (sym told.running-checked.ensures ∙ told.enum_told-1.given.1)))
     (λ c. search rules)
     (λ c. let told = c.before.before.before.before in
-    rw (← told.before.before.running-checked.ensures, told.enum_told-1.given.1, c.done.ensures, c.before.take_in.ensures)))
+    rw (← told.running-checked.ensures, told.enum_told-1.given.1, c.done.ensures, c.take_in.ensures)))

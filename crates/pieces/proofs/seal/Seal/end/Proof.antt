@@ -6,9 +6,9 @@ use Rattle.pieces.proofs.seal.Seal.end.Statement.{statement}
 use Rattle.pieces.proofs.seal.Seal.end.Tie as tie
 
 passed : (x : tie.In_default)
-    → let a = x.before.before.before.before.args in
+    → let a = x.args in
     Runs a.self.stands a.self.label a.self.total 0 × (16 ≤ length (a.out-1.now))
-passed x = writing_passed _ _ _ _ _ _ (sym x.before.before.writing-checked.ensures ∙ x.enum_told-1.given.1)
+passed x = writing_passed _ _ _ _ _ _ (sym x.writing-checked.ensures ∙ x.enum_told-1.given.1)
 
 mask-length : (s : tie.Start) → length s.args.self.mask-1 ≡ 16
 mask-length s = search rules
@@ -20,13 +20,13 @@ returns_2 c =
     let at_tag = at-round.before.before.before in
     let at-end = at_tag.before.before.before in
     let told = at-end.before.before.before in
-    rw (← told.before.before.writing-checked.ensures, told.enum_told-1.given.1, c.before.done_round.ensures)
+    rw (← told.writing-checked.ensures, told.enum_told-1.given.1, c.done_round.ensures)
     (rw (at-round.gcm_came_round-came_round.ensures, at_tag.xor_pad.ensures, at-end.end-hash.ensures, c.shut.ensures))
 
 pub end_spec : {M : Type 1} → statement M
 unfolding seal_end
 end_spec = tie.close (tie.spec (λ c. search rules) (λ c. search rules) (λ c. search rules)
-    (λ c. let told = c.before.before in rw (← told.before.before.writing-checked.ensures, told.checked-1.given.1, c.refused.ensures))
+    (λ c. let told = c.before.before in rw (← told.writing-checked.ensures, told.checked-1.given.1, c.refused.ensures))
     (λ c. search rules) (λ c. (mod-lt _ (lit< tt), both_hashable (passed c.before.before).0)) (λ c. search rules)
     (λ c. let told = c.before.before.before.before.before in
     let room = (passed told).1 in
