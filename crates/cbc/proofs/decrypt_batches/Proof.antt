@@ -27,8 +27,8 @@ loop_again c =
     let d = a.«data».now in
     let at = l.at in
     let n = at_next.next_batch-m.result in
-    fed_on (cbc_decrypt (reverse a.back)) (decrypt_fed a.back) d _ l.out-1 _ at n l.invariant (omega arith) (omega arith)
-    (decrypted a.back n (block_at (tailed (at - 16) d)) (block_at (tailed at d)) (tailed at l.out-1) _ at-xored.encrypt_xored.ensures)
+    fed_on (cbc_decrypt (reverse a.back)) (decrypt_fed a.back) d _ l.out _ at n l.invariant (omega arith) (omega arith)
+    (decrypted a.back n (block_at (tailed (at - 16) d)) (block_at (tailed at d)) (tailed at l.out) _ at-xored.encrypt_xored.ensures)
 
 returns_3 : tie.Need-returns invariant_loop decreases_loop
 returns_3 c =
@@ -40,7 +40,7 @@ returns_3 c =
     let sixteen = length-unwords a.iv in (
       l.invariant.whole,
       rw (block-before s d l.at sixteen l.invariant.behind)
-          (fed_reached _ (decrypt_fed a.back) d _ s (a.out-1.now) l.out-1 l.at l.invariant sixteen (omega arith) (omega arith)
+          (fed_reached _ (decrypt_fed a.back) d _ s (a.out-1.now) l.out l.at l.invariant sixteen (omega arith) (omega arith)
           at-step.decrypt_step.ensures.1),
     )
 

@@ -41,7 +41,7 @@ module _ (x : tie.After-number invariant_loop decreases_loop) where
   abbrev here : List ℕ
   here = at_loop.loop-t.t.now
 
-  number_is : x.number.result ≡ number_of_end (replay_one ks here at_loop.loop-t.place at_loop.loop-t.report-1).ended
+  number_is : x.number.result ≡ number_of_end (replay_one ks here at_loop.loop-t.place at_loop.loop-t.report).ended
   number_is = cc
 
 returns_2 : tie.Need-returns-then-number-ne0 invariant_loop decreases_loop
@@ -71,9 +71,9 @@ loop_again c =
     let next = c.skip-next.ensures in
     let told = x.replay_one-one.ensures in (
       l.invariant.0,
-      turn_within (ks x) (here x) l.place l.report-1 _ _ m.measure-n.ensures told (passes m) l.invariant.1,
+      turn_within (ks x) (here x) l.place l.report _ _ m.measure-n.ensures told (passes m) l.invariant.1,
       omega (arith, size m, ap length next, length-drop m.measure-n.result (here x), l.invariant.2),
-      rw next (turn_from (ks x) (here x) l.place l.report-1 _ _ m.measure-n.ensures told (passes m) ∙ l.invariant.3),
+      rw next (turn_from (ks x) (here x) l.place l.report _ _ m.measure-n.ensures told (passes m) ∙ l.invariant.3),
     )
 
 pub replay_spec : {M : Type 1} → statement M
@@ -85,4 +85,4 @@ replay_spec =
     (λ c. omega (arith, size c.before, (at_loop (numbered c.before)).loop-t.invariant.2))
     (λ c. let m = c.before in omega (arith, size m, ap length c.skip-next.ensures, length-drop m.measure-n.result (here (numbered m))))
     loop_again
-    (λ c. let l = c.loop-t in sym (from_end _ (l.t.now) l.place l.report-1 (omega arith)) ∙ l.invariant.3))
+    (λ c. let l = c.loop-t in sym (from_end _ (l.t.now) l.place l.report (omega arith)) ∙ l.invariant.3))

@@ -12,5 +12,5 @@ double_spec = tie.close (tie.spec
     (λ c. search rules) (λ c. search rules)
     (λ c.
     let l = c.loop-i in
-    (omega arith, search rules, λ f n h. doubled_next f n l.i l.s-1 (search rules) l.invariant.1 (l.invariant.2 f n h)))
+    (omega arith, search rules, λ f n h. doubled_next f n l.i l.s (search rules) l.invariant.1 (l.invariant.2 f n h)))
     (λ c. let l = c.loop-i in (λ f n h p k hp. l.invariant.2 f n h p k (omega arith), l.invariant.1)))

@@ -10,5 +10,5 @@ pub halves_spec : {M : Type 1} → statement M
 halves_spec = tie.close (next8 (tie.spec
     (λ x k n r₀ g₀ r g. (g ≤ n) × (length r ≡ 16) × Each (λ i. get_or x i 0 / 2 ^ k % 2 ^ 32) g r) (λ x k n r₀ g₀ r g. n - g)
     (λ c. search rules)) (omega arith)
-    (λ c. let l = c.loop-g in (omega arith, search rules, each_next _ l.g _ l.r-1 (omega arith) refl l.invariant.2))
+    (λ c. let l = c.loop-g in (omega arith, search rules, each_next _ l.g _ l.r (omega arith) refl l.invariant.2))
     (λ c j h. c.loop-g.invariant.2 j (omega arith)))

@@ -13,5 +13,5 @@ sums_spec = tie.close (next8 (tie.spec
     (omega arith)
     (λ c.
     let l = c.loop-g in
-    (omega arith, search rules, each_next _ l.g _ l.r-1 (omega arith) refl l.invariant.2))
+    (omega arith, search rules, each_next _ l.g _ l.r (omega arith) refl l.invariant.2))
     (λ c j h. c.loop-g.invariant.2 j (omega arith)))

@@ -53,7 +53,7 @@ put-stretch_requires c =
     let d = S.args.«data».now in
     let size = get_or S.args.plan.lengths-1 l.i 0 in
     let here = length-take (l.at + size - l.at) (drop l.at d) in
-    let there = length_tailed l.out-1 l.at in
+    let there = length_tailed l.out l.at in
     let left = length-drop l.at d in
     (S.requires.0, (S.requires.1.0, omega (arith, here, there, left, (turn tested).inside, l.invariant.1, l.invariant.2, S.requires.1.1.1)))
 
@@ -72,7 +72,7 @@ loop_again c =
       on.inside,
       omega (arith, inv.2),
       on.rest,
-      joined a.rk (a.iv.now) (a.«data».now) (a.out-1.now) l.out-1 _ l.at n inv.1 inv.4 stretched,
+      joined a.rk (a.iv.now) (a.«data».now) (a.out-1.now) l.out _ l.at n inv.1 inv.4 stretched,
     )
 
 returns : tie.Need-returns invariant_loop decreases_loop

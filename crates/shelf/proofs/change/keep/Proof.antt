@@ -13,7 +13,7 @@ decreases_loop shelf₀ used coming job to₀ at₀ shelf to at = used - at
 
 turn : (x : tie.Else-n-eq0 invariant_loop decreases_loop)
     → let l = x.before.before.before.before in
-    Turn l.loop-h.shelf-1 l.args.used l.loop-h.at x.front-h.result
+    Turn l.loop-h.shelf l.args.used l.loop-h.at x.front-h.result
 turn x = on _ _ _ _ x.front-h.ensures x.if-n-eq0.false
 
 loop_again : tie.Need-loop-h-preserved invariant_loop decreases_loop
@@ -21,7 +21,7 @@ loop_again c =
     let x = c.before in
     let l = x.before.before.before.before.before in
     let S = l.before.before in
-    let small = below_each 256 (S.args.shelf.now) (λ k. omega (arith, l.slice_known-1.given k)) in
+    let small = below_each 256 (S.args.shelf.now) (λ k. omega (arith, l.slice_known.given k)) in
     ⊎_elim
     (λ w. stay_turn S.requires l.loop-h.invariant (turn x.before) small (sym x.stays.ensures ∙ w.0.taken) (w.5 ∙ w.2.ensures) w.6)
     (λ w. gone_turn S.requires l.loop-h.invariant (turn x.before) (sym x.stays.ensures ∙ w.0.left) w.1 w.2) c.if-stays.branch

@@ -29,5 +29,5 @@ sound_up_to_spec =
     (λ c.
     let e = c.before.before in
     let l = e.before.before.before in
-    let small = below_each 256 (l.args.s.now) (λ k. omega (arith, l.shared_slice_known-1.given k)) in
+    let small = below_each 256 (l.args.s.now) (λ k. omega (arith, l.shared_slice_known.given k)) in
     passing_on l.loop-h.invariant (turn e) small (sym c.is_second.ensures ∙ c.if-is_second.false)))

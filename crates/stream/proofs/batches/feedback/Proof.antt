@@ -17,7 +17,7 @@ loop_again c =
     let at-xored = c.before.before in
     let at_next = at-xored.before.before.before.before in
     let l = at_next.loop-at in
-    fed_on _ (cfb_fed _) _ _ l.out-1 _ l.at at_next.next_batch-m.result l.invariant (omega arith) (omega arith)
+    fed_on _ (cfb_fed _) _ _ l.out _ l.at at_next.next_batch-m.result l.invariant (omega arith) (omega arith)
     at-xored.encrypt_xored.ensures
 
 returns_2 : tie.Need-returns invariant_loop decreases_loop
@@ -26,7 +26,7 @@ returns_2 c =
     let l = at_loop.loop-at in
     let at-step = at_loop.before.before.before in
     let iv = at-step.args.iv in
-    rw c.block_at.ensures (fed_reached _ (cfb_fed _) _ _ _ _ l.out-1 l.at l.invariant (length-unwords iv) (omega arith) (omega arith)
+    rw c.block_at.ensures (fed_reached _ (cfb_fed _) _ _ _ _ l.out l.at l.invariant (length-unwords iv) (omega arith) (omega arith)
     at-step.step.ensures.1)
 
 pub feedback_spec : {M : Type 1} → statement M

@@ -18,7 +18,7 @@ loop_again c =
     let at_loop = at-counter-after.before.before in
     let l = at_loop.loop-i in
     let a = at_loop.args in
-    let stored = block-stored a.out-1.now l.out-1 _ (jumped a.wide (unwords a.c)) l.i
+    let stored = block-stored a.out-1.now l.out _ (jumped a.wide (unwords a.c)) l.i
     (λ k h. length-jumped a.wide (unwords a.c) k (length-unwords a.c)) l.invariant.2
     (rw at-counter-after.counter_after.ensures at c.put_block.ensures) in
     (omega arith, search rules, stored)
@@ -28,7 +28,7 @@ returns c =
     let l = c.loop-i in
     let a = c.args in
     let e : l.i ≡ a.n = omega arith in
-    over-stored a.n (jumped a.wide (unwords a.c)) _ l.out-1
+    over-stored a.n (jumped a.wide (unwords a.c)) _ l.out
     (λ k h. length-jumped a.wide (unwords a.c) k (length-unwords a.c)) (rw e at l.invariant.2)
 
 pub lay_counters_spec : {M : Type 1} → statement M
