@@ -29,7 +29,7 @@ returns c =
     ended a.kind a.rk l.invariant _ _ _ (omega arith) rested.0 rested.1
 
 pub one_by_one_spec : {M : Type 1} → statement M
-one_by_one_spec = tie.close (tie.spec invariant_loop decreases_loop (λ c. reached-first _ _ _ _) (λ c. omega arith) (λ c. omega arith) (λ c. omega arith)
-    (λ c. omega arith) (λ c. omega arith) (λ c. omega arith) (λ c. omega arith) (λ c. search rules) (λ c. omega arith) (λ c. omega arith)
-    loop_again (λ c. omega arith) (λ c. omega arith) (λ c. omega arith) (λ c. omega arith) (λ c. omega arith) (λ c. omega arith)
-    (λ c. search rules) (λ c. omega arith) returns)
+one_by_one_spec = tie.close (tie.spec invariant_loop decreases_loop (λ c. reached-first _ _ _ _) (λ c. omega arith) (λ c. omega arith)
+    (λ c. omega arith) (λ c. omega arith) (λ c. omega arith) (λ c. omega arith) (λ c. omega arith) (λ c. search rules)
+    (λ c. omega arith) (λ c. omega arith) loop_again (λ c. omega arith) (λ c. omega arith) (λ c. omega arith)
+    (λ c. omega arith) (λ c. omega arith) (λ c. omega arith) (λ c. search rules) (λ c. omega arith) returns)

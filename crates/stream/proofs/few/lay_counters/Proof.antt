@@ -31,6 +31,6 @@ returns c =
 
 pub lay_counters_spec : {M : Type 1} → statement M
 unfolding cat
-lay_counters_spec = tie.close (tie.spec invariant_loop decreases_loop (λ c. (search rules, refl, refl)) (λ c. search rules) (λ c. search rules)
-    (λ c. search rules) (λ c. search rules) (λ c. search rules) (λ c. search rules) (λ c. search rules) (λ c. search rules) loop_again
-    (λ c. search rules) returns)
+lay_counters_spec = tie.close (tie.spec invariant_loop decreases_loop (λ c. (search rules, refl, refl)) (λ c. search rules)
+    (λ c. search rules) (λ c. search rules) (λ c. search rules) (λ c. search rules) (λ c. search rules) (λ c. search rules)
+    (λ c. search rules) loop_again (λ c. search rules) returns)

@@ -19,9 +19,8 @@ loop_again c =
     blocks_on a.kind a.rk l.invariant 64 _ _ (omega arith) (omega arith) x.0 x.1.1
 
 pub run_spec : {M : Type 1} → statement M
-run_spec = tie.close (tie.spec invariant_loop decreases_loop (λ c. reached-first _ _ _ _) (λ c. omega arith) (λ c. omega arith) (λ c. omega arith)
-    (λ c. omega arith)
-    (λ c. omega arith) (λ c. omega arith) (λ c. omega arith) (λ c κs. (
+run_spec = tie.close (tie.spec invariant_loop decreases_loop (λ c. reached-first _ _ _ _) (λ c. omega arith) (λ c. omega arith)
+    (λ c. omega arith) (λ c. omega arith) (λ c. omega arith) (λ c. omega arith) (λ c. omega arith) (λ c κs. (
       search rules,
       (
         (omega arith, λ e. untrue e),
