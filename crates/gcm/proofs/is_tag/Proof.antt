@@ -12,8 +12,8 @@ returns c =
     let S = known.before in
     let s = S.args.bytes.now in
     let e = S.args.expected in
-    let four : length e ≡ 4 = search (rules, S.well-formed.1.0) in
-    let fits : (i : ℕ) → Fits w32 (get_or e i 0) = λ i. search (rules, S.well-formed.1.0) in
+    let four : length e ≡ 4 = search (rules, S.well_formed.1.0) in
+    let fits : (i : ℕ) → Fits w32 (get_or e i 0) = λ i. search (rules, S.well_formed.1.0) in
     let small : (i : ℕ) → get_or s i 0 < 256 = λ i. omega (arith, known.shared_slice_known-1.given i) in
     is_tag-words s _ e _ S.requires (below_each 256 s small) at_split.split_block.ensures
     four (below_each (2 ^ 32) e (λ i. (fits i).fits)) c.block_xor-d.ensures

@@ -25,7 +25,7 @@ returns c =
     let at-text-part = at-hash.before in
     let S = at-text-part.before.before.before in
     let a = S.args in
-    let four : length a.mask ≡ 4 = search (rules, S.well-formed.0) in
+    let four : length a.mask ≡ 4 = search (rules, S.well_formed.0) in
     let h = value a.h in
     let hash = at-hash.galois_hash_after-hash.ensures
     ∙ ap (λ (text : List ℕ). ghash h (auth_blocks (a.aad.now) text)) at-text-part.text_part.ensures in
