@@ -111,7 +111,7 @@ returns_2 c =
     (round at-start b _ (length d - 16) n at-round.gcm_came_round-in-Decrypt.ensures))
 
 pub by_gcm_spec : {M : Type 1} → statement M
-by_gcm_spec = tie.close (tie.spec (λ c c.lifetimes e. with_tag_passed _ (rw e at c.requires.1.1.1.0))
+by_gcm_spec = tie.close (tie.spec (λ c e. with_tag_passed _ (rw e at c.requires.1.1.1.0))
     start_requires (λ c. search rules) (λ c. search rules) encrypt_requires encrypted_length_requires (λ c. search rules)
     (λ c. search rules) (λ c. search rules) (λ c. search rules) decrypt_requires (λ c. search rules) (λ c. search rules)
     (λ c. search rules) (λ c. search rules) returns (λ c. search rules) returns_2)
