@@ -1,5 +1,6 @@
 -- `cipher_mode::work::by_gcm` meets its contract: with the start of keys and IV, as long as the table says or as `gcm::decrypt`.
-use Rattle.block.proofs.Base.{◌-◌, ◌^◌, ◌<◌, ◌≤◌, ℕ, ◌∙◌, ◌≡◌, ap, ap₂, refl, sym, Bool, cond, List, arith, rules, get_or, length, w32, Fits}
+use Rattle.block.proofs.Base.{◌-◌, ◌^◌, ◌<◌, ◌≤◌, ℕ, ◌∙◌, ◌≡◌, ap, ap₂, refl, sym, Bool, cond, List, arith, rules, get_or, length}
+use Rattle.block.proofs.Base.{w32, Fits}
 use Rattle.counter.specs.Counter.{last_four}
 use Rattle.counter.specs.CameRound.{blocks_of, gcm_came_round}
 use Rattle.counter.proofs.Steps.{last-four}
