@@ -1,6 +1,5 @@
 -- `editions::which` meets its contract: a bad list ends it, then what a check refused, and then the search gives the verdict.
-use Rattle.block.proofs.Base.{◌∙◌, ◌≡◌, sym, false, rules}
-use Rattle.editions.specs.Candidates.{bad_list}
+use Rattle.block.proofs.Base.{◌∙◌, sym, rules}
 use Rattle.editions.specs.Which.{which}
 use Rattle.editions.proofs.Passed.{adds_up, search_passed}
 use Rattle.editions.proofs.which.Statement.{statement}
