@@ -1,7 +1,6 @@
 -- `gcm::decrypt_short` meets its contract: as `decrypt` does, with the mask and the pads that stand ready.
-use Rattle.gcm.proofs.Names.{List, ◌-◌, ◌<◌, ◌∙◌, ◌≡◌, ap, ap₂, arith, below_each, encrypt_block, get_or, length, length-take-le}
-use Rattle.gcm.proofs.Names.{masked_tag, opens_under, over, same, sym, tag_of, tag_part, tailed, text_of, text_part, unwords, value}
-use Rattle.gcm.proofs.Names.{xors, ℕ}
+use Rattle.gcm.proofs.Names.{List, ◌-◌, ◌<◌, ◌∙◌, ◌≡◌, ap, arith, below_each, get_or, length, length-take-le}
+use Rattle.gcm.proofs.Names.{over, sym, tailed, text_of, text_part, value, xors, ℕ}
 use Rattle.gcm.proofs.Settled.{into_refused, into_opened, told}
 use Rattle.gcm.proofs.Short.{mask-front, text-front}
 use Rattle.gcm.proofs.decrypt_short.Goals as goal

@@ -1,5 +1,5 @@
 -- `gcm::start` meets its contract: H by itself or from the pads (`hash-key-front`), J0 by the length of the IV.
-use Rattle.gcm.proofs.Names.{Fits, ◌<◌, ◌∙◌, ap, arith, below_each, eq-eqb, first_counter, get_or, hashed_counter, ne_eqb, rules, w8, ℕ}
+use Rattle.gcm.proofs.Names.{Fits, ◌∙◌, ap, below_each, eq-eqb, first_counter, get_or, hashed_counter, ne_eqb, rules, w8, ℕ}
 use Rattle.gcm.proofs.Short.{hash-key-front}
 use Rattle.gcm.proofs.start.Goals as goal
 
