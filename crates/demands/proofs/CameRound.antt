@@ -61,7 +61,8 @@ module _ {b : Bool} where
 
   -- by what decides between two, behind a check, and on whichever key
   either-says : (t : Bool) {g h : Head} → Says b g → Says b h → Says b (cond t g h)
-  either-says t p q = elim t [ true ↦ p | false ↦ q ]
+  either-says true p q = p
+  either-says false p q = q
 
   behind-says : (k : Checked) {h : Head} → (k ≡ Passed → Says b h) → Says b (head_behind k h)
   unfolding head_behind

@@ -11,13 +11,13 @@ use Rattle.block.proofs.Same.{by_test}
 use Rattle.demands.proofs.ModesBack.{encrypted, encrypts, length_encrypted, opening}
 use Rattle.cipher_mode.proofs.Passed.{message_passed, block_passed}
 use Rattle.cipher_mode.proofs.Ends.{length-block}
-use Rattle.demands.specs.Answered.{single_numbers, Answered, KeyAnswered, length_of}
+use Rattle.demands.specs.Answered.{one_of, single_numbers, Answered, KeyAnswered, length_of}
 use Rattle.demands.proofs.Through.{new_is_new}
 use mathlib.Core.Bool.{or-true}
 use Rattle.cipher_mode.specs.Key.{no_cipher}
 use Rattle.demands.specs.WhichNumber.{block_rows, encrypt_rows, decrypt_rows}
 use Rattle.demands.proofs.WhichNumber.{exported_block-number, exported_encryption_number, exported_decryption_number}
-use Rattle.demands.proofs.Answering.{numbered, Fair, answered, refused_fair, done_fair, checks_fair, front_fair}
+use Rattle.demands.proofs.Answering.{within, numbered, Fair, answered, refused_fair, done_fair, checks_fair, front_fair}
 use Rattle.demands.specs.NoUsableKey.{NoUsableKey}
 
 -- where one of the two ends of the range is passed, the number is wrong
@@ -53,7 +53,9 @@ block-answers dir k b o =
     let block = block_of dir c.rk b in
     let size = length-block dir c.rk b in
     answered o 16 single_numbers _ _
-    (numbered (block_rows dir k b o) single_numbers _ (elim dir [ Encrypt ↦ refl | Decrypt ↦ refl ]) (exported_block-number dir k b o)) refl
+    (numbered (block_rows dir k b o) single_numbers _
+    (elim dir as (λ (r : Direction). within (block_rows r k b o) single_numbers ≡ true) [ Encrypt ↦ refl | Decrypt ↦ refl ])
+    (exported_block-number dir k b o)) refl
     (checks_fair o 16 (block_check c.answer c.retired dir (length b) (length o)) (done block o) (λ e.
     done_fair o 16 block _ refl size (rw size (block_passed _ _ _ _ _ e).enough)))
 
@@ -64,11 +66,12 @@ result_fair : (m : CipherMode) (dir : Direction) (rk aad d iv o : List ℕ) → 
 result_fair m Encrypt rk aad d iv o n e r =
     let size = length_encrypted m rk aad d iv in
     let same : room_of m Encrypt (length d) ≡ length_of m Encrypt rk iv d =
-    elim m [ Cfb ↦ refl | Ofb ↦ refl | Ctr ↦ refl | Cbc ↦ refl | Gcm ↦ refl ] in
+    elim m as (λ (w : CipherMode). room_of w Encrypt (length d) ≡ length_of w Encrypt rk iv d) [ Cfb ↦ refl | Ofb ↦ refl | Ctr ↦ refl | Cbc ↦ refl | Gcm ↦ refl ] in
     rw (encrypts m rk aad d iv o) (done_fair o _ (encrypted m rk aad d iv) _ refl (size ∙ same) (omega arith))
 result_fair m Decrypt rk aad d iv o n e r =
     let fits : length_of m Decrypt rk iv d ≤ room_of m Decrypt (length d) =
-    elim m [ Cfb ↦ omega arith | Ofb ↦ omega arith | Ctr ↦ omega arith | Cbc ↦ omega arith | Gcm ↦ omega arith ] in
+    elim m as (λ (w : CipherMode). length_of w Decrypt rk iv d ≤ room_of w Decrypt (length d))
+    [ Cfb ↦ omega arith | Ofb ↦ omega arith | Ctr ↦ omega arith | Cbc ↦ omega arith | Gcm ↦ omega arith ] in
     ⊎_elim (λ (k, some, x). rw x (refused_fair o _ k some))
     (λ t. let size = t.size in rw t.opened (done_fair o _ t.text _ refl size (omega arith))) (opening rk aad d iv o m n e)
 
@@ -83,7 +86,7 @@ message-answers dir mode k label d iv o =
     let m = mode_of mode in
     let n = length_of m dir k.round_keys iv d in
     answered o n single_numbers _ _
-    (elim dir [
+    (elim dir as (λ (r : Direction). one_of (host_mode_call r mode k label d iv o).head.number single_numbers ≡ true) [
       | Encrypt ↦ numbered (encrypt_rows mode k label d iv o) single_numbers _ refl (exported_encryption_number mode k label d iv o)
       | Decrypt ↦ numbered (decrypt_rows mode k label d iv o) single_numbers _ refl (exported_decryption_number mode k label d iv o)
     ])

@@ -25,7 +25,8 @@ host_encrypts mode k label d iv o p =
 -- who may work in a direction
 allowed : (dir : Direction) (k : LuossavinKey) → (dir ≡ Encrypt → k.retired ≡ 0) → retired_check dir (cipher_in k).retired ≡ Passed
 unfolding cipher_in
-allowed dir k = elim dir [ Encrypt ↦ λ u. rw (u refl) | Decrypt ↦ λ _. refl ]
+allowed Encrypt k u = rw (u refl)
+allowed Decrypt k _ = refl
 
 -- a block that was worked in one direction, worked in the other under the same key
 block_takes_back : (there back : Direction) (c l : Sm4Cipher) → l.answer ≡ c.answer → l.rk ≡ c.rk
@@ -111,12 +112,15 @@ set-up-same-key key n m size n₁ n₂ m₁ m₂ =
 -- Whoever asks in order is served.
 
 label_in_order : (m : CipherMode) (n : ℕ) → (m ≡ Gcm → n ≤ limit) → label_check m n ≡ Passed
-label_in_order m n =
-    elim m [ Cfb ↦ λ _. refl | Ofb ↦ λ _. refl | Ctr ↦ λ _. refl | Cbc ↦ λ _. refl | Gcm ↦ λ h. rw (le-ltb limit n (h refl)) ]
+label_in_order Cfb n _ = refl
+label_in_order Ofb n _ = refl
+label_in_order Ctr n _ = refl
+label_in_order Cbc n _ = refl
+label_in_order Gcm n h = rw (le-ltb limit n (h refl))
 
 iv_in_order : (m : CipherMode) (n : ℕ) → (n ≡ 16) ⊎ ((m ≡ Gcm) × (n ≡ 12)) → wrong_iv m n ≡ false
 iv_in_order m n s =
-    ⊎_elim (λ e. rw e (elim m [ Cfb ↦ refl | Ofb ↦ refl | Ctr ↦ refl | Cbc ↦ refl | Gcm ↦ refl ])) (λ (e, f). rw (e, f)) s
+    ⊎_elim (λ e. rw e (elim m as (λ (w : CipherMode). wrong_iv w 16 ≡ false) [ Cfb ↦ refl | Ofb ↦ refl | Ctr ↦ refl | Cbc ↦ refl | Gcm ↦ refl ])) (λ (e, f). rw (e, f)) s
 
 -- With a usable and unretired key, in every mode: encryption that is asked for in order is done with the table's length, and so is
 -- decryption of what it gave, under any record of the key, with the message's.

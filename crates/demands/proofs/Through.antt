@@ -14,11 +14,13 @@ pub result-of-done : (p o : List ℕ) → result (done p o) ≡ p
 result-of-done p o = take-append_seam p _
 
 pub zero_passed : (k : Checked) (o : List ℕ) (next : Outcome) → (checked k o next).head.number ≡ 0 → k ≡ Passed
-zero_passed k o next = elim k [ Passed ↦ λ _. refl | Refused r ↦ λ e. absurd ((refuses r).not-zero e) ]
+zero_passed Passed o next _ = refl
+zero_passed (Refused r) o next e = absurd ((refuses r).not-zero e)
 
 -- a start that answers 0 has passed
 pub passed_start : (S : Type 0) (k : Checked) (shut : ℕ → S) (s : S) → (begun S k shut s).head.number ≡ 0 → k ≡ Passed
-passed_start S k shut s = elim k [ Passed ↦ λ _. refl | Refused r ↦ λ e. absurd ((refuses r).not-zero e) ]
+passed_start S Passed shut s _ = refl
+passed_start S (Refused r) shut s e = absurd ((refuses r).not-zero e)
 
 -- a single block
 module _ (dir : Direction) (c : Sm4Cipher) (b o : List ℕ) where
@@ -64,7 +66,9 @@ module _ (dir : Direction) (mode : ℕ) (k : LuossavinKey) (aad d iv o : List �
 
 answer_back : (a : KeyAnswer) → key_answer_of (key_head a).number ≡ a
 unfolding key_answer_of
-answer_back a = elim a [ Key ↦ refl | ErrorBlockSize ↦ refl | WrongNumber ↦ refl ]
+answer_back Key = refl
+answer_back ErrorBlockSize = refl
+answer_back WrongNumber = refl
 
 -- a record that was handed out comes back as it was
 pub handed_back : (c : Sm4Cipher) → cipher_in (key_of c) ≡ c

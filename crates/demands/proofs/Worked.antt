@@ -23,11 +23,13 @@ worked h = refl
 -- All rows, whether the tag is right or not: what the definitions say is what docs/REQUIREMENTS.md says.
 pub at_the_edges : (right : Bool) → map (λ (r : Edge). r.ours) (edges right) ≡ map (λ (r : Edge). r.paper) (edges right)
 unfolding message_check block_check key_and_iv data_check room_check new_cipher names_padding all_padding unpadded same
-at_the_edges right = elim right [ true ↦ refl | false ↦ refl ]
+at_the_edges true = refl
+at_the_edges false = refl
 
 verdict-refused : (k : Checked) (h : Head) (n : ℕ) → k ≢ Passed → head_behind k h ≡ verdict k n
 unfolding head_behind
-verdict-refused k h n = elim k [ Passed ↦ λ z. absurd (z refl) | Refused r ↦ λ _. refl ]
+verdict-refused Passed h n z = absurd (z refl)
+verdict-refused (Refused r) h n _ = refl
 
 -- a refusal says nothing of a counter
 verdict-done : (k : Checked) (n : ℕ) (b : Bool) → head_behind k (telling b (finished n)) ≡ telling_done b (verdict k n)

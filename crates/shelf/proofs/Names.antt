@@ -2,16 +2,17 @@
 pub use lib.Seq.{drop-append_seam, drop-paste, drop-set-lt, length-paste, paste, paste-zero, set-append_left, take-paste, take-take}
 pub use mathlib.Core.Bool.{and-false, or-false, or-true}
 pub use Rattle.block.proofs.Base.{Bool, List, [], ◌&&◌, ◌++◌, ◌+◌, ◌-◌, ◌<◌, ◌^◌, ◌||◌, ◌∙◌, ◌∷◌, ◌≡◌, ◌≤◌, add-zero, ap, append_assoc}
-pub use Rattle.block.proofs.Base.{append-nil, ap₂, arith, cond, drop, drop-append-add, drop-append-le, drop-cons, drop-drop, eq-eqb, eqb}
+pub use Rattle.block.proofs.Base.{append-nil, ap₂, arith, cond, drop, drop-append-add, drop-append-le, drop-cons, drop-drop}
+pub use Rattle.block.proofs.Base.{drop_at, eq-eqb, eqb}
 pub use Rattle.block.proofs.Base.{eqb-false, eqb-true, false, get_or, le-leb, le-ltb, leb, leb-true, length, length-append, length-drop}
 pub use Rattle.block.proofs.Base.{length-set, length-take, length-take-le, lit<, lt-leb, lt-ltb, ltb, ltb-false, ltb-true, mod-eq_of_lt}
-pub use Rattle.block.proofs.Base.{ne_eqb, rules, not, not-false, not-true, refl, set, sub-zero, suc, suc-add, sym, take, take-add}
+pub use Rattle.block.proofs.Base.{ne_eqb, rules, not, not-false, refl, set, sub-zero, suc, suc-add, sym, take, take-add, take_at}
 pub use Rattle.block.proofs.Base.{take-append-drop, take-append-le, take-append_seam, take-length, take-nil, take-suc-set, true, zero}
-pub use Rattle.block.proofs.Base.{zero-add, ℕ, ⊎_elim}
+pub use Rattle.block.proofs.Base.{zero-add, ℕ}
 pub use Rattle.block.proofs.Convert.{bytes_of-number_of, length-bytes_of, number_of-bytes_of, number_of-lt}
 pub use Rattle.block.proofs.Entries.{below_at, below-drop, below_each, below-take}
 pub use Rattle.block.proofs.Same.{and_left, and_right, by_test}
-pub use Rattle.block.proofs.Tails.{length_tailed, over-behind, returned, tailed}
+pub use Rattle.block.proofs.Tails.{length_tailed, over-append, over-behind, returned, tailed}
 pub use Rattle.block.specs.Below.{AreBytes}
 unfoldable pub use Rattle.block.specs.BigEndian.{number_of, bytes_of}
 pub use Rattle.block.specs.Over.{over}

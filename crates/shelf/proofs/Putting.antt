@@ -1,12 +1,12 @@
 -- What a put changes: marking the current record of a job changes one byte of the buffer; where a new record goes, and what it takes
 -- to find room for it.
-use Rattle.shelf.proofs.Names.{AreBytes, Bool, InOrder, List, Record, Surveyed, Told, [], ◌++◌, ◌+◌, ◌<◌, ◌∙◌, ◌∷◌, ◌≡◌, ◌≤◌}
+use Rattle.shelf.proofs.Names.{AreBytes, Bool, InOrder, List, Record, Surveyed, Told, [], ◌++◌, ◌+◌, ◌-◌, ◌<◌, ◌∙◌, ◌∷◌, ◌≡◌, ◌≤◌}
 use Rattle.shelf.proofs.Names.{and-false, ap, append_assoc, append-nil, arith, below-take, by_test, bytes_of, collected, cond, drop}
-use Rattle.shelf.proofs.Names.{eqb, false, fitted, has_current, is_current_of, label_of, le-leb, le-ltb, leb, leb-true, length}
+use Rattle.shelf.proofs.Names.{drop_at, eqb, false, fitted, has_current, is_current_of, label_of, le-leb, le-ltb, leb, leb-true, length}
 use Rattle.shelf.proofs.Names.{length-append, length-bytes_of, length-drop, length_label, length-take-le, lt-leb, ltb, ltb-false}
-use Rattle.shelf.proofs.Names.{ltb-true, new_record, not, over, over-behind, place_of, records, refl, returned, room_made, set}
-use Rattle.shelf.proofs.Names.{set-append_left, size_of, stays, stored, suc-add, supersede, superseded, sym, tailed, take}
-use Rattle.shelf.proofs.Names.{take-append-drop, take-length, those, true, two_current, with_new, written, zero-add, ℕ}
+use Rattle.shelf.proofs.Names.{ltb-true, new_record, not, over, over-append, over-behind, place_of, records, refl, returned, room_made, set}
+use Rattle.shelf.proofs.Names.{set-append_left, size_of, stays, stored, suc-add, supersede, superseded, sym, tailed, take, take_at}
+use Rattle.shelf.proofs.Names.{take-append-drop, those, true, two_current, with_new, written, zero-add, ℕ}
 use Rattle.shelf.proofs.Reading.{length-written}
 use Rattle.shelf.proofs.Walks.{or_left, or_right, alone, two_rest, has_told}
 use Rattle.shelf.proofs.ReadsProper.{stored-records}
@@ -175,14 +175,21 @@ module _ (shelf : List ℕ) (used : ℕ) (o : InOrder shelf used) where
       made_bytes e =
           over-behind made (written new) shelf s _ at (sym m.0) m.1 e ∙ ap (λ (x : List ℕ). over x shelf) (sym stored_made)
 
+-- p was copied to the front of an output, and then q behind it
+copied_behind : (p q o b : List ℕ) (n : ℕ) → length p ≡ n → b ≡ q
+    → take n (p ++ drop n o) ++ (b ++ drop (n + length q - n) (drop n (p ++ drop n o))) ≡ over (p ++ q) o
+copied_behind p q o b n l e =
+    let m : n + length q - n ≡ length q = omega arith in
+    rw (m, e, take_at p (drop n o) n l, drop_at p (drop n o) n l, ← l) (sym (over-append p q o))
+
 -- head and sealed bytes written one behind the other
-pub record_written : (job edition : ℕ) (sealed head o o₁ t : List ℕ)
-    → head ≡ 0x52 ∷ 0x44 ∷ (label_of job edition ++ bytes_of 4 (length sealed))
-    → o₁ ≡ take (length head) head ++ drop (length head) o → t ≡ take (length sealed) sealed ++ drop (length sealed) (tailed 12 o₁)
-    → returned 12 o₁ t ≡ over (written (new_record job edition sealed)) o
+pub record_written : (job edition : ℕ) (sealed head o t : List ℕ)
+    → head ≡ 0x52 ∷ 0x44 ∷ (label_of job edition ++ bytes_of 4 (length sealed)) → t ≡ sealed
+    → take 12 (head ++ drop 12 o) ++ (t ++ drop (12 + length sealed - 12) (drop 12 (head ++ drop 12 o)))
+    ≡ over (written (new_record job edition sealed)) o
 unfolding written
-record_written job edition sealed head o o₁ t e f g =
+record_written job edition sealed head o t e f =
     let n = length-append (label_of job edition) (bytes_of 4 (length sealed)) in
     let long : length head ≡ 12 = ap length e ∙ omega (arith, n, length_label job edition, length-bytes_of 4 (length sealed)) in
     let whole : head ++ sealed ≡ written (new_record job edition sealed) = rw (e, append_assoc) in
-    over-behind head sealed o o₁ t 12 long (f ∙ rw take-length) (g ∙ rw take-length) ∙ ap (λ (x : List ℕ). over x o) whole
+    copied_behind head sealed o t 12 long f ∙ ap (λ (x : List ℕ). over x o) whole

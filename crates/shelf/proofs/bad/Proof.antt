@@ -7,8 +7,8 @@ use Rattle.shelf.proofs.bad.Tie as tie
 pub bad_spec : {M : Type 1} → statement M
 bad_spec =
     tie.close (tie.spec (λ c. unfold bad_shelf in rw (lt-ltb _ _ c.if-shelf-gt-MOST.true))
-    (λ c. unfold bad_shelf in rw (le-ltb _ _ c.if-shelf-gt-MOST.false, lt-ltb _ _ c.if-used-shelf.true)) (λ c. search rules) (λ c. search rules)
-    (λ c. search rules) (λ c. search rules)
+    (λ c. unfold bad_shelf in rw (le-ltb _ _ c.if-shelf-gt-MOST.false, lt-ltb _ _ c.if-used-shelf.true))
+    (λ c. search rules) (λ c. search rules) (λ c. search rules) (λ c. search rules)
     (λ c.
     let k = c.before.before.before.before in
     let a = k.args in

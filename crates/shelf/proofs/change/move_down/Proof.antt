@@ -40,7 +40,8 @@ loop_again c =
 
 pub move_down_spec : {M : Type 1} → statement M
 move_down_spec =
-    tie.close (tie.spec invariant_loop decreases_loop (λ c. (omega arith, refl, simp (add-zero, sub-zero))) (λ c. omega arith) (λ c. omega arith)
+    tie.close (tie.spec invariant_loop decreases_loop (λ c. (omega arith, refl, simp (add-zero, sub-zero)))
+    (λ c. omega arith) (λ c. omega arith)
     (λ c. omega arith) (λ c. omega arith) (λ c. omega arith) (λ c. omega arith) loop_again (λ c. omega arith)
     (λ c.
     let l = c.before in

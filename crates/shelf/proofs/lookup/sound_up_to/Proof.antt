@@ -12,8 +12,7 @@ abbrev decreases_loop : tie.decreases-loop-h
 decreases_loop s at₀ at = length s - at
 
 turn : (x : tie.Else-n-eq0 invariant_loop decreases_loop)
-    → let l = x.before.before.before in
-    let s = l.args.s.now in Turn s (length s) l.loop-h.at x.front-h.result
+    → let s = x.args.s.now in Turn s (length s) x.loop-h.at x.front-h.result
 turn x = on _ _ _ _ x.front-h.ensures x.if-n-eq0.false
 
 pub sound_up_to_spec : {M : Type 1} → statement M
@@ -28,6 +27,5 @@ sound_up_to_spec =
     (λ c. omega (arith, turn c.before.before)) (λ c. omega (arith, turn c.before.before))
     (λ c.
     let e = c.before.before in
-    let l = e.before.before.before in
-    let small = below_each 256 (l.args.s.now) (λ k. omega (arith, l.shared_slice_known.given k)) in
-    passing_on l.loop-h.invariant (turn e) small (sym c.is_second.ensures ∙ c.if-is_second.false)))
+    let small = below_each 256 (c.args.s.now) (λ k. omega (arith, c.shared_slice_known-1.given k)) in
+    passing_on c.loop-h.invariant (turn e) small (sym c.is_second.ensures ∙ c.if-is_second.false)))

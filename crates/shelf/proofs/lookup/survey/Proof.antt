@@ -13,8 +13,7 @@ abbrev decreases_loop : tie.decreases-loop-h
 decreases_loop s used job edition at₀ start₀ length₀ reached₀ kept₀ at start length reached kept = used - at
 
 turn : (x : tie.Else-n-eq0 invariant_loop decreases_loop)
-    → let l = x.before.before.before in
-    let a = l.args in Turn (a.shelf.now) a.used l.loop-h.at x.front-h.result
+    → let a = x.args in Turn (a.shelf.now) a.used x.loop-h.at x.front-h.result
 turn x = on _ _ _ _ x.front-h.ensures x.if-n-eq0.false
 
 loop_again : tie.Need-loop-h-preserved invariant_loop decreases_loop
@@ -28,7 +27,8 @@ loop_again c =
     r.reaches.ensures k.add-reached.ensures c.stays.ensures c.add-kept.ensures
 
 pub survey_spec : {M : Type 1} → statement M
-survey_spec = tie.close (tie.spec invariant_loop decreases_loop (λ c. counting_starts _ _ _ _) (λ c. omega arith) (λ c. omega arith) (λ c. omega arith)
+survey_spec = tie.close (tie.spec invariant_loop decreases_loop (λ c. counting_starts _ _ _ _)
+    (λ c. omega arith) (λ c. omega arith) (λ c. omega arith)
     (λ c. search rules) (λ c. counted c.loop-h.invariant c.front-h.ensures c.if-n-eq0.true)
     (λ c. search rules) (λ c. omega (arith, turn c.before)) (λ c. omega (arith, turn c.before.before))
     (λ c. search rules) (λ c. omega (arith, turn c.before.before.before.before)) (λ c. search rules)
