@@ -32,5 +32,6 @@ returns_2 c =
     (λ e. eq-eqb c.loop-i.left 0 (omega (arith, eqb-true)))
 
 pub add_up_spec : {M : Type 1} → statement M
-add_up_spec = tie.close (tie.spec invariant_loop decreases_loop (λ c. omega arith) (λ c. omega arith) (λ c. omega arith) returns (λ c. omega arith)
+add_up_spec = tie.close (tie.spec invariant_loop decreases_loop (λ c. omega arith) (λ c. omega arith) (λ c. omega arith) returns
+    (λ c. omega arith)
     (λ c. omega arith) loop_again returns_2)

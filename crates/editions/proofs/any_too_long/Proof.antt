@@ -26,5 +26,6 @@ returns_2 c =
     sym (long-end (c.args.lengths.now) c.loop-i.i (omega arith)) ∙ c.loop-i.invariant.1
 
 pub any_too_long_spec : {M : Type 1} → statement M
-any_too_long_spec = tie.close (tie.spec invariant_loop decreases_loop (λ c. (omega arith, refl)) (λ c. omega arith) (λ c. omega arith) returns
+any_too_long_spec = tie.close (tie.spec invariant_loop decreases_loop (λ c. (omega arith, refl)) (λ c. omega arith)
+    (λ c. omega arith) returns
     (λ c. omega arith) (λ c. omega arith) loop_again returns_2)

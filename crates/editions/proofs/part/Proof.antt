@@ -17,14 +17,18 @@ unfolding part_of
 returns_4 c =
     let a = c.args in
     let size : a.found.start + a.found.length - a.found.start ≡ a.found.length = omega arith in
-    rw (size, sym c.is_candidate.ensures ∙ c.if-not-is_candidate.false, le-ltb (length (a.labels.now)) (a.found.start + a.found.length) (omega arith))
+    let found = sym c.is_candidate.ensures ∙ c.if-not-is_candidate.false in
+    rw (size, found, le-ltb (length (a.labels.now)) (a.found.start + a.found.length) (omega arith))
 
 pub part_spec : {M : Type 1} → statement M
 unfolding part_of
 part_spec = tie.close (tie.spec (λ c. search rules) (λ c. search rules) (λ c. search rules) (λ c. search rules)
     (λ c. rw (← c.is_candidate.ensures, c.if-not-is_candidate.true))
-    (λ c. search rules) (λ c. search rules) (λ c. search rules) (λ c. outside c.args.found (c.args.labels.now) (sym c.is_candidate.ensures ∙ c.if-not-is_candidate.false) (omega arith)) (λ c. search rules)
+    (λ c. search rules) (λ c. search rules) (λ c. search rules)
+    (λ c. outside c.args.found (c.args.labels.now) (sym c.is_candidate.ensures ∙ c.if-not-is_candidate.false) (omega arith))
     (λ c. search rules)
-    (λ c. search rules) (λ c. search rules) (λ c. outside c.args.found (c.args.labels.now) (sym c.is_candidate.ensures ∙ c.if-not-is_candidate.false) (omega arith)) (λ c. search rules) (λ c. search rules)
+    (λ c. search rules) (λ c. search rules) (λ c. search rules)
+    (λ c. outside c.args.found (c.args.labels.now) (sym c.is_candidate.ensures ∙ c.if-not-is_candidate.false) (omega arith))
+    (λ c. search rules) (λ c. search rules)
     (λ c. search rules)
     (λ c. search rules) returns_4)

@@ -81,7 +81,8 @@ returns c =
     rw (take_all l.at d (omega (arith, end))) at inv.4
 
 pub put_pieces_spec : {M : Type 1} → statement M
-put_pieces_spec = tie.close (tie.spec invariant_loop decreases_loop loop_holds (λ c. omega arith) (λ c. omega arith) (λ c. omega arith) (λ c. omega arith)
+put_pieces_spec = tie.close (tie.spec invariant_loop decreases_loop loop_holds (λ c. omega arith) (λ c. omega arith) (λ c. omega arith)
+    (λ c. omega arith)
     (λ c. record { fits = omega (arith, (turn c).inside) }) (λ c. omega arith) (λ c. omega arith) (λ c. omega (arith, (turn c).inside))
     (λ c. omega arith)
     (λ c. omega (arith, c.loop-i.invariant.1, c.loop-i.invariant.2, c.requires.1.1.1))

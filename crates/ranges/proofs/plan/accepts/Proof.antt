@@ -64,4 +64,5 @@ unfolding accepts
 accepts_spec = tie.close (tie.spec invariant_loop decreases_loop (λ c. rw (lt-leb _ _ c.if-count-gt-MOST.true))
     (λ c. (omega arith, omega arith, omega arith, refl)) (λ c. omega arith) (λ c. omega arith) (λ c. omega arith) (λ c. omega arith)
     (λ c. omega arith) (λ c. omega arith) (λ c. search rules) returns_2
-    (λ c. record { fits = omega (arith, (turn c.before).1 c.if-not-is_piece.false) }) (λ c. omega arith) (λ c. omega arith) loop_again returns_3)
+    (λ c. record { fits = omega (arith, (turn c.before).1 c.if-not-is_piece.false) }) (λ c. omega arith) (λ c. omega arith)
+    loop_again returns_3)

@@ -13,7 +13,8 @@ returns_4 c =
 pub make_spec : {M : Type 1} → statement M
 unfolding planned
 make_spec = tie.close (tie.spec (λ c. search rules) (λ c. rw (c.without.ensures, eq-eqb _ _ c.if-workers-eq0.true)) (λ c. search rules)
-    (λ c. rw (c.without-then-workers-gt-MOST.ensures, ne_eqb _ _ c.if-workers-eq0.false, lt-ltb _ _ c.if-workers-gt-MOST.true)) (λ c. search rules)
+    (λ c. rw (c.without-then-workers-gt-MOST.ensures, ne_eqb _ _ c.if-workers-eq0.false, lt-ltb _ _ c.if-workers-gt-MOST.true))
+    (λ c. search rules)
     (λ c. rw (c.without-then-n-gt-LIMIT.ensures, ne_eqb _ _ c.if-workers-eq0.false, le-ltb _ _ c.if-workers-gt-MOST.false)
     (rw (lt-ltb _ _ c.if-n-gt-LIMIT.true)))
     (λ c. search rules)

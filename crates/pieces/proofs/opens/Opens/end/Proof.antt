@@ -22,6 +22,8 @@ pub end_spec : {M : Type 1} → statement M
 unfolding opens_end
 end_spec = tie.close (tie.spec (λ c. search rules) (λ c. search rules) (λ c. search rules)
     (λ c. rw (← c.tagged-checked.ensures, c.in-Refused.is, c.refused.ensures))
-    (λ c. search rules) (λ c _. (mod-lt _ (lit< tt), both_hashable (tagged_passed _ _ _ _ (sym c.tagged-checked.ensures ∙ c.in_default.is)).0))
-    (λ c. search rules) (λ c _. (tagged_passed _ _ _ _ (sym c.tagged-checked.ensures ∙ c.in_default.is)).1) (λ c. search rules) (λ c. search rules) returns_2
+    (λ c. search rules)
+    (λ c _. (mod-lt _ (lit< tt), both_hashable (tagged_passed _ _ _ _ (sym c.tagged-checked.ensures ∙ c.in_default.is)).0))
+    (λ c. search rules) (λ c _. (tagged_passed _ _ _ _ (sym c.tagged-checked.ensures ∙ c.in_default.is)).1) (λ c. search rules)
+    (λ c. search rules) returns_2
     (λ c. search rules) returns_3)

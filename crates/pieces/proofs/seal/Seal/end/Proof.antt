@@ -15,7 +15,9 @@ pub end_spec : {M : Type 1} → statement M
 unfolding seal_end
 end_spec = tie.close (tie.spec (λ c. search rules) (λ c. search rules) (λ c. search rules)
     (λ c. rw (← c.writing-checked.ensures, c.in-Refused.is, c.refused.ensures))
-    (λ c. search rules) (λ c _. (mod-lt _ (lit< tt), both_hashable (writing_passed _ _ _ _ _ _ (sym c.writing-checked.ensures ∙ c.in_default.is)).0)) (λ c. search rules)
+    (λ c. search rules)
+    (λ c _. (mod-lt _ (lit< tt), both_hashable (writing_passed _ _ _ _ _ _ (sym c.writing-checked.ensures ∙ c.in_default.is)).0))
+    (λ c. search rules)
     (λ c _. let room : 16 ≤ length c.args.out.now =
     (writing_passed _ _ _ _ _ _ (sym c.writing-checked.ensures ∙ c.in_default.is)).1 in
     let n : length c.args.self.mask ≡ 16 = search rules in (omega arith, omega arith))

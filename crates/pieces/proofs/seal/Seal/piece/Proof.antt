@@ -24,7 +24,8 @@ pub piece_spec : {M : Type 1} → statement M
 unfolding seal_piece
 piece_spec = tie.close (tie.spec (λ c. search rules) (λ c. search rules) (λ c. search rules)
     (λ c. rw (← c.writing-checked.ensures, c.in-Refused.is, c.refused.ensures))
-    (λ c. search rules) (λ c _. (mod-lt _ (lit< tt), (writing_passed _ _ _ _ _ _ (sym c.writing-checked.ensures ∙ c.in_default.is)).1)) (λ c. search rules)
+    (λ c. search rules) (λ c _. (mod-lt _ (lit< tt), (writing_passed _ _ _ _ _ _ (sym c.writing-checked.ensures ∙ c.in_default.is)).1))
+    (λ c. search rules)
     (λ c. search rules)
     (λ c. let room : length c.args.«data».now ≤ length c.args.out.now =
     (writing_passed _ _ _ _ _ _ (sym c.writing-checked.ensures ∙ c.in_default.is)).1 in
