@@ -1,11 +1,11 @@
 -- An outcome is answered as demand 1 asks: a refusal, or a success whose result has the table's length and fits. The numbers are those of
 -- the rows that tell which one is answered.
 use Rattle.demands.specs.Names as N
-use N.{not, Bool, ◌&&◌, cond, false, true, List, [], ◌∷◌, map, ◌≢◌, ◌⊎◌, inl, inr, ◌∙◌, ◌≡◌, ap, refl, ◌<◌, ◌≤◌, ℕ, arith, eqb, drop, get_or}
-use N.{length, length-append, length-drop, drop_at, eqb-false, Head, Outcome, finished, refusal, refuseAs, over, refusal_head, checked}
-use N.{Refusal, EmptyCbc, Ended, ErrorBlockSize, ErrorDataLen, RefusalLastU8, RefusalPadding, RefusalTag, NoRoom, Retired, ShortGcm}
-use N.{TooLong, WrongBlock, WrongIv, WrongNumber, Checked, Passed, Refused, Stepped, begun, goes_on, under, Verdict, checked_verdict}
-use N.{none_with, on_key}
+use N.{not, Bool, ◌&&◌, cond, false, true, List, [], ◌∷◌, map, ◌≢◌, ◌⊎◌, inl, inr, ◌∙◌, ◌≡◌, ap, refl, ◌<◌, ◌≤◌, ℕ, arith, eqb, drop}
+use N.{get_or, length, length-append, length-drop, drop_at, eqb-false, Head, Outcome, finished, refusal, refuseAs, over, refusal_head}
+use N.{checked, Refusal, EmptyCbc, Ended, ErrorBlockSize, ErrorDataLen, RefusalLastU8, RefusalPadding, RefusalTag, NoRoom, Retired}
+use N.{ShortGcm, TooLong, WrongBlock, WrongIv, WrongNumber, Checked, Passed, Refused, Stepped, begun, goes_on, under, Verdict}
+use N.{checked_verdict, none_with, on_key}
 use Rattle.block.proofs.Same.{by_test}
 use Rattle.cipher_mode.proofs.Refusals.{refuses}
 use Rattle.demands.specs.Answered.{one_of, Answered}
@@ -82,7 +82,8 @@ front-head false k o next = refl
 
 -- and of the question which label a file opens under
 pub verdict-head : (bad : Bool) (n : ℕ) (k : Checked) (v : Verdict) → v.head ≡ finished 0
-    → (cond bad (none_with (refusal 16)) (on_key n (checked_verdict k v))).head ≡ cond bad (refusal 16) (under n (head_behind k (finished 0)))
+    → (cond bad (none_with (refusal 16)) (on_key n (checked_verdict k v))).head
+    ≡ cond bad (refusal 16) (under n (head_behind k (finished 0)))
 unfolding head_behind
 verdict-head true n k v e = refl
 verdict-head false n Passed v e = ap (under n) e

@@ -1,8 +1,8 @@
 -- The replay of a journal, as a host is told of it: demand 1, which number it ends with; two journals joined; and that calls which were
 -- recorded as they were answered agree.
 use Rattle.demands.specs.Names as N
-use N.{false, true, List, [], ◌++◌, ◌∷◌, append-nil, inl, inr, ⊎_elim, ◌∙◌, ◌≡◌, ap, refl, sym, ◌<◌, ℕ, get_or, take-append_seam, ◌-◌, arith}
-use N.{ltb, length, take, lt-ltb, AreBytes, Sm4Cipher, AllReplayable, Ends, NoneDiffers, Totals, counted_all, differs, Entry}
+use N.{false, true, List, [], ◌++◌, ◌∷◌, append-nil, inl, inr, ⊎_elim, ◌∙◌, ◌≡◌, ap, refl, sym, ◌<◌, ℕ, get_or, take-append_seam, ◌-◌}
+use N.{arith, ltb, length, take, lt-ltb, AreBytes, Sm4Cipher, AllReplayable, Ends, NoneDiffers, Totals, counted_all, differs, Entry}
 use N.{storedJournal as stored, writtenJournal as written, added, behind_report, bad_keys, keyOfJournal as key_of, keys_in, answered_by}
 use N.{call_into, recomputed, result_of as result, doneJournal as done, number_of_end, replay, nothing, write, JournalEnd as Ended, BadKeys}
 use N.{BadRecord, DoneJournal as Done, TooLongJournal as TooLong, UnknownKey, Replayed, Keys, DoneWrote, NoRoomWrote as NoRoom}

@@ -1,9 +1,10 @@
 -- In each mode, what encrypting gave is in order for decrypting and decrypts to the message, and the other way about.
 use Rattle.demands.specs.Names as N
-use N.{Kind, not, inl, inr, ◌⊎◌, ⊎_elim, ◌-◌, ◌<◌, all_padding, last_byte, names_padding, limit_of, refused, false, true, List, ◌∙◌, ◌≡◌, refl}
-use N.{◌%◌, ◌≤◌, ℕ, arith, length, take, length-take-le, eq-eqb, le-ltb, ne_eqb, AreBytes, done, reporting, chain, stream_mode, CfbDecrypt}
-use N.{CfbEncrypt, CtrKind, OfbKind, cbc_seal, cbc_open, cbc_text, unpadded, J0, hash_key, opens_under, sealed, text_of, text_part, gcm_open}
-use N.{mode_result, data_check, wrong_iv, limit, room_of, sealed_limit, CipherMode, Cbc, Cfb, Ctr, Gcm, Ofb, Decrypt, Encrypt, Passed}
+use N.{Kind, not, inl, inr, ◌⊎◌, ⊎_elim, ◌-◌, ◌<◌, all_padding, last_byte, names_padding, limit_of, refused, false, true, List, ◌∙◌, ◌≡◌}
+use N.{refl, ◌%◌, ◌≤◌, ℕ, arith, length, take, length-take-le, eq-eqb, le-ltb, ne_eqb, AreBytes, done, reporting, chain, stream_mode}
+use N.{CfbDecrypt, CfbEncrypt, CtrKind, OfbKind, cbc_seal, cbc_open, cbc_text, unpadded, J0, hash_key, opens_under, sealed, text_of}
+use N.{text_part, gcm_open, mode_result, data_check, wrong_iv, limit, room_of, sealed_limit, CipherMode, Cbc, Cfb, Ctr, Gcm, Ofb, Decrypt}
+use N.{Encrypt, Passed}
 use Rattle.block.proofs.Same.{by_test}
 use Rattle.stream.proofs.RoundTrip.{length-stream, stream_back, stream_forth}
 use Rattle.cbc.proofs.RoundTrip.{length-cbc_seal}

@@ -1,9 +1,10 @@
 -- What a call that answered 0 had in order, what a call leaves that has all in order, and how a record crosses the boundary.
 use Rattle.demands.specs.Names as N
-use N.{false, List, ◌≡◌, refl, ℕ, arith, eqb, ltb, length, take-append_seam, eq-eqb, le-ltb, Outcome, done, keyed, block_call}
-use N.{block_of, lengths_of, mode_call, mode_result, block_check, checked, key_and_iv, message_check, room_check, key_head, key_number, new_cipher}
+use N.{false, List, ◌≡◌, refl, ℕ, arith, eqb, ltb, length, take-append_seam, eq-eqb, le-ltb, Outcome, done, keyed, block_call, block_of}
+use N.{lengths_of, mode_call, mode_result, block_check, checked, key_and_iv, message_check, room_check, key_head, key_number, new_cipher}
 use N.{retire, mode_of, room_of, Direction, KeyAnswer, NoKey as ErrorBlockSize, Key, NoNumber as WrongNumber, Sm4Cipher, Sm4CipherMode}
-use N.{Checked, Passed, Refused, begun, host_mode_call, mode_in, cipher_in, host_key_new, host_key_retire, key_answer_of, key_of, LuossavinKey}
+use N.{Checked, Passed, Refused, begun, host_mode_call, mode_in, cipher_in, host_key_new, host_key_retire, key_answer_of, key_of}
+use N.{LuossavinKey}
 use Rattle.block.proofs.Same.{by_test}
 use Rattle.cipher_mode.proofs.Passed.{InOrder, BlockInOrder, message_passed, block_passed}
 use Rattle.cipher_mode.proofs.Refusals.{refuses}

@@ -2,13 +2,13 @@
 -- that a public call's contract has, whatever the definition in it gives.
 use Rattle.demands.specs.Names as N
 use N.{Bool, cond, not, List, [], ◌∷◌, ◌∙◌, ◌≡◌, ap, refl, sym, ◌-◌, ℕ, eqb, get_or, Head, Outcome, ending_head, head_of, outcome, Answer}
-use N.{Ending, Done, RefusedEnding as Refused, Stepped, ctr_stepped, opens_stepped, seal_stepped, CtrState as Ctr, CtrStep, Opens, OpensStep}
-use N.{Seal, SealStep, Verdict, askedHead, is_found, verdict_of, Asked, BadList, Candidate, None, RefusedAsked, Found, planHead}
+use N.{Ending, Done, RefusedEnding as Refused, Stepped, ctr_stepped, opens_stepped, seal_stepped, CtrState as Ctr, CtrStep, Opens}
+use N.{OpensStep, Seal, SealStep, Verdict, askedHead, is_found, verdict_of, Asked, BadList, Candidate, None, RefusedAsked, Found, planHead}
 use N.{plannedOutcome, ByPlan, PlannedEnd, DonePlan, NotAccepted, RefusedPlan, ShelfOutcome, Place, shelfNumber as number_of_end}
 use N.{outcome_of, place_in, ShelfEnd, BadShelf, DoneShelf, NoCurrent, NoRoomShelf, NotHigher, ShelfFound, Kept, Leaves, Wrote, head_in}
-use N.{reported, ctr_reported, opens_reported, seal_reported, Handed, planned_reported, shelf_reported, shelved_reported, Told, found_reported}
-use N.{LuossavinAnswer, LuossavinLabel, LuossavinCtrStep, LuossavinOpensStep, LuossavinSealStep, LuossavinShelf, LuossavinShelved}
-use N.{LuossavinFound, LuossavinPlanned}
+use N.{reported, ctr_reported, opens_reported, seal_reported, Handed, planned_reported, shelf_reported, shelved_reported, Told}
+use N.{found_reported, LuossavinAnswer, LuossavinLabel, LuossavinCtrStep, LuossavinOpensStep, LuossavinSealStep, LuossavinShelf}
+use N.{LuossavinShelved, LuossavinFound, LuossavinPlanned}
 use Rattle.demands.proofs.Answering.{told_by, told_back, mark_back}
 use Rattle.demands.specs.OneOutcome.{One, OneValue}
 

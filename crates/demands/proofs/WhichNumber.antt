@@ -1,12 +1,12 @@
 -- Which number an exported call answers: that of the first of the conditions of docs/REQUIREMENTS.md that holds, and no other.
 use Rattle.demands.specs.Names as N
-use N.{Bool, ◌&&◌, cond, false, not, true, List, [], ◌∷◌, inl, inr, ⊎_elim, ◌≡◌, refl, subst, sym, ℕ, eqb, length, eqb-true, Head, Outcome, finished}
-use N.{refusal, refuseAs, telling, cbc_open, cbc_head, unpadded, CbcDone, InvalidLastU8, InvalidPadding, gcm_open, refusal_head, block_call}
-use N.{lengths_of, mode_call, mode_result, and_then, block_check, checked, data_check, key_and_iv, key_check, message_check, refuse, room_check}
-use N.{new_cipher, wrong_number, CipherMode, Cbc, Cfb, Ctr, Gcm, Ofb, Direction, Decrypt, Encrypt, Refusal, Checked, Passed, Refused, ctr_end}
-use N.{ctr_piece, ctr_start, opens_end, opens_piece, opens_start, seal_end, seal_piece, seal_start, gcm_starting, running, standing, tagged, writing}
-use N.{CtrState, Opens, Seal, search_check, which, host_block_call, host_mode_call, host_ctr_start, host_opens_start, host_seal_start, cipher_in}
-use N.{host_key_new, key_answer_of, key_of, host_which, LuossavinKey}
+use N.{Bool, ◌&&◌, cond, false, not, true, List, [], ◌∷◌, inl, inr, ⊎_elim, ◌≡◌, refl, subst, sym, ℕ, eqb, length, eqb-true, Head, Outcome}
+use N.{finished, refusal, refuseAs, telling, cbc_open, cbc_head, unpadded, CbcDone, InvalidLastU8, InvalidPadding, gcm_open, refusal_head}
+use N.{block_call, lengths_of, mode_call, mode_result, and_then, block_check, checked, data_check, key_and_iv, key_check, message_check}
+use N.{refuse, room_check, new_cipher, wrong_number, CipherMode, Cbc, Cfb, Ctr, Gcm, Ofb, Direction, Decrypt, Encrypt, Refusal, Checked}
+use N.{Passed, Refused, ctr_end, ctr_piece, ctr_start, opens_end, opens_piece, opens_start, seal_end, seal_piece, seal_start, gcm_starting}
+use N.{running, standing, tagged, writing, CtrState, Opens, Seal, search_check, which, host_block_call, host_mode_call, host_ctr_start}
+use N.{host_opens_start, host_seal_start, cipher_in, host_key_new, key_answer_of, key_of, host_which, LuossavinKey}
 use Rattle.block.proofs.Same.{by_test}
 use Rattle.editions.proofs.FirstOpening.{search-number}
 use Rattle.demands.specs.WhichNumber.{Said, said_in, only, Row, Among, is_retired, encrypt_rows_in, decrypt_rows_in, first_of, numbers_of}
@@ -21,7 +21,8 @@ abbrev pub behind : Checked → Said → Said
 behind Passed s = s
 behind (Refused r) s = said_in (refusal_head r)
 
-pub said-refuse : (t : Bool) (r : Refusal) (k : Checked) (s : Said) → behind (refuse t r k) s ≡ cond t (said_in (refusal_head r)) (behind k s)
+pub said-refuse : (t : Bool) (r : Refusal) (k : Checked) (s : Said)
+    → behind (refuse t r k) s ≡ cond t (said_in (refusal_head r)) (behind k s)
 said-refuse true r k s = refl
 said-refuse false r k s = refl
 

@@ -1,10 +1,10 @@
 -- The worked table of docs/REQUIREMENTS.md and its edges hold of the definitions, by computation; and two blocks under a key are computed.
 use Rattle.demands.specs.Names as N
 use N.{Bool, false, true, List, [], ◌++◌, ◌∷◌, map, ◌≢◌, ◌∙◌, ◌≡◌, ap, refl, sym, ℕ, arith, get_or, length, replicate, ne_eqb, bytes_of}
-use N.{number_of, same, unwords, words, gmul, mul_from, times_x, ctr_next, gcm_next, finished, telling, under, CK, L, L', T, T', encrypt_block}
-use N.{encrypt_words, keys_from, rotl, round_keys, rounds, sbox_table, tau, hash_from, all_padding, names_padding, unpadded, refusal_head}
-use N.{lengths_of, mode_call, block_check, data_check, key_and_iv, message_check, room_check, new_cipher, Direction, Encrypt, Key, Sm4CipherMode}
-use N.{RefusedEnding, Checked, Passed, Refused, Head}
+use N.{number_of, same, unwords, words, gmul, mul_from, times_x, ctr_next, gcm_next, finished, telling, under, CK, L, L', T, T'}
+use N.{encrypt_block, encrypt_words, keys_from, rotl, round_keys, rounds, sbox_table, tau, hash_from, all_padding, names_padding, unpadded}
+use N.{refusal_head, lengths_of, mode_call, block_check, data_check, key_and_iv, message_check, room_check, new_cipher, Direction, Encrypt}
+use N.{Key, Sm4CipherMode, RefusedEnding, Checked, Passed, Refused, Head}
 use Rattle.demands.specs.Worked.{Row, table}
 use Rattle.demands.proofs.Answering.{head_behind, heads}
 use Rattle.cipher_mode.proofs.Refusals.{refuses, quiet_ending}
