@@ -11,7 +11,7 @@ pub use Rattle.block.proofs.Base.{take, take-add, take-append-drop, take-append-
 pub use Rattle.block.proofs.Convert.{bytes_of-number_of, length-bytes_of, number_of-bytes_of, number_of-lt}
 pub use Rattle.block.proofs.Entries.{below_at, below-drop, below-replicate, below-take}
 pub use Rattle.block.proofs.Same.{and_left, and_right, by_test, same_equal, same_refl}
-pub use Rattle.block.proofs.Tails.{over-behind, returned, tail_is, tailed}
+pub use Rattle.block.proofs.Tails.{over-append, over-behind, returned, tail_is, tailed}
 pub use Rattle.block.specs.Below.{AreBytes, Below}
 unfoldable pub use Rattle.block.specs.BigEndian.{number_of, bytes_of}
 pub use Rattle.block.specs.Over.{over}
