@@ -1,7 +1,8 @@
 -- The parts of a record are written one behind the other.
 use Rattle.journal.proofs.Names.{Call, Entry, List, ◌++◌, ◌+◌, ◌-◌, ◌∙◌, ◌≡◌, ◌≤◌, answered_of, ap, append_assoc, arith, asked_of}
 use Rattle.journal.proofs.Names.{drop, entry_of, false, head, head_of, le-ltb, length, length-append, length-bytes_of, middle, middle_of, over}
-use Rattle.journal.proofs.Names.{drop_at, over-append, over-behind, part, returned, sym, tailed, take, take_at, too_long, write, written, ℕ}
+use Rattle.journal.proofs.Names.{drop_at, over-append, over-behind, part, returned, sym, tailed, take, take_at, too_long, write}
+use Rattle.journal.proofs.Names.{written, ℕ}
 use Rattle.journal.specs.declared.writer.Wrote.TheVariants.{Done}
 
 -- a copy of p at the front of an output, and behind it a copy of q

@@ -31,26 +31,26 @@ returns-then-number-ne0 c =
     ∙ l.invariant.same
 
 -- the size of a record that was counted
-size : {ks : List Sm4Cipher} {b : List ℕ} {n : ℕ} → Passes ks b → n ≡ size_at b → (0 < n) × (n ≤ length b)
-size {ks} {b} p e = let s = stands b p.0 in omega (arith, data-within b s, size-within b s)
+size : (ks : List Sm4Cipher) (b : List ℕ) {n : ℕ} → Passes ks b → n ≡ size_at b → (0 < n) × (n ≤ length b)
+size ks b p e = let s = stands b p.0 in omega (arith, data-within b s, size-within b s)
 
 pub skip-next-requires : goal.skip-next-requires
 skip-next-requires c =
     let l = c.loop-t in
     let number_is : c.number.result ≡ number_of_end (replay_one (keys_in c.args.keys) (l.t.now) l.place l.report).ended = cc in
-    (size (passed _ _ _ _ (sym number_is ∙ c.if-number-ne0.false)) c.measure-n.ensures).1
+    (size _ _ (passed _ _ _ _ (sym number_is ∙ c.if-number-ne0.false)) c.measure-n.ensures).1
 
 pub overflow_add-place : goal.overflow_add-place
 overflow_add-place c =
     let l = c.loop-t in
     let number_is : c.number.result ≡ number_of_end (replay_one (keys_in c.args.keys) (l.t.now) l.place l.report).ended = cc in
-    omega (arith, size (passed _ _ _ _ (sym number_is ∙ c.if-number-ne0.false)) c.measure-n.ensures, l.invariant.at)
+    omega (arith, size _ _ (passed _ _ _ _ (sym number_is ∙ c.if-number-ne0.false)) c.measure-n.ensures, l.invariant.at)
 
 pub loop-t-smaller : goal.loop-t-smaller
 loop-t-smaller c =
     let l = c.loop-t in
     let number_is : c.number.result ≡ number_of_end (replay_one (keys_in c.args.keys) (l.t.now) l.place l.report).ended = cc in
-    let n = size (passed _ _ _ _ (sym number_is ∙ c.if-number-ne0.false)) c.measure-n.ensures in
+    let n = size _ _ (passed _ _ _ _ (sym number_is ∙ c.if-number-ne0.false)) c.measure-n.ensures in
     omega (arith, n, ap length c.skip-next.ensures, length-drop c.measure-n.result (l.t.now))
 
 pub loop-t-preserved : goal.loop-t-preserved
@@ -59,7 +59,7 @@ loop-t-preserved c =
     let ks = keys_in c.args.keys in
     let number_is : c.number.result ≡ number_of_end (replay_one ks (l.t.now) l.place l.report).ended = cc in
     let passes = passed _ _ _ _ (sym number_is ∙ c.if-number-ne0.false) in
-    let n = size passes c.measure-n.ensures in
+    let n = size _ _ passes c.measure-n.ensures in
     let next = c.skip-next.ensures in
     let told = c.replay_one-one.ensures in
     record {

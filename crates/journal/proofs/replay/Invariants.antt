@@ -8,7 +8,7 @@ invariant-loop-t l = record {
   few : l.keys.count ≤ 8;
   within : Within l.place l.report;
   at : l.place + length l.t ≡ length l.journal;
-  same : replay_from (keys_in l.keys) l.t l.place l.report ≡ replay l.keys l.journal
+  same : replay_from (keys_in l.keys) l.t l.place l.report ≡ replay l.keys l.journal;
 }
 
 abbrev pub decreases-loop-t : goal.decreases-loop-t

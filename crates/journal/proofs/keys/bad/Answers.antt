@@ -56,8 +56,8 @@ loop-i-preserved c =
       inside = omega arith;
       decide =
           neither _ _ _ c.at-key.ensures.keys_value _ c.number_of-number.ensures c.if-key.false
-              (sym c.find_from.ensures.count_value ∙ le-ltb _ _ c.if-find_from-keys.false)
-              ∙ so_far.decide;
+          (sym c.find_from.ensures.count_value ∙ le-ltb _ _ c.if-find_from-keys.false)
+          ∙ so_far.decide;
     }
 
 pub returns : goal.returns

@@ -7,7 +7,7 @@ invariant-loop-i l = record {
   few : l.keys.count ≤ 8;
   count : length (keys_in l.keys) ≡ l.keys.count;
   inside : l.i ≤ l.keys.count;
-  decide : any_retired (drop l.i (keys_in l.keys)) || number_twice (drop l.i (keys_in l.keys)) ≡ bad_keys l.keys
+  decide : any_retired (drop l.i (keys_in l.keys)) || number_twice (drop l.i (keys_in l.keys)) ≡ bad_keys l.keys;
 }
 
 abbrev pub decreases-loop-i : goal.decreases-loop-i

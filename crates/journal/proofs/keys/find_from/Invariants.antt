@@ -6,7 +6,7 @@ abbrev pub invariant-loop-i : goal.invariant-loop-i
 invariant-loop-i l = record {
   count : length (keys_in l.keys) ≡ l.keys.count;
   inside : l.i ≤ l.keys.count;
-  place : l.i + place_of l.number (drop l.i (keys_in l.keys)) ≡ l.from + place_of l.number (drop l.from (keys_in l.keys))
+  place : l.i + place_of l.number (drop l.i (keys_in l.keys)) ≡ l.from + place_of l.number (drop l.from (keys_in l.keys));
 }
 
 abbrev pub decreases-loop-i : goal.decreases-loop-i

@@ -1,5 +1,5 @@
 -- Field by field. No sum wraps, since every count is at most the place.
-use Rattle.journal.proofs.Names.{List, Stands, ◌+◌, ◌∙◌, ◌≡◌, ◌≤◌, ap, arith, below_at, counted, front, length, mode_place, rules}
+use Rattle.journal.proofs.Names.{List, Stands, ◌+◌, ◌∙◌, ◌≤◌, ap, arith, below_at, counted, front, length, mode_place}
 use Rattle.journal.proofs.Names.{one_more, refl, suc, ℕ}
 use Rattle.journal.proofs.Standing.{size-within, data-within}
 use Rattle.journal.proofs.Counting.{same-report}
