@@ -173,7 +173,6 @@ pub fn encrypted_length(mode: CipherMode, n: usize) -> usize
     }
 }
 
-#[tactic(auto, using(crate::proofs::Passed::with_tag_passed))]
 fn room_of(direction: Direction, mode: CipherMode, n: usize) -> usize
     requires { data_check direction mode n ≡ Checked.Passed }
     ensures { result ≡ room_of mode direction n }

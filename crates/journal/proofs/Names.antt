@@ -4,14 +4,14 @@ pub use lib.Seq.{drop-length, take-suc}
 pub use Rattle.block.proofs.Base.{Bool, List, [], ◌&&◌, ◌++◌, ◌+◌, ◌-◌, ◌<◌, ◌^◌, ◌||◌, ◌∙◌, ◌∷◌, ◌≡◌, ◌≤◌, ◌⊎◌, add_assoc, add-one}
 pub use Rattle.block.proofs.Base.{add-zero, ap, append_assoc, append-nil, arith, cond, drop, drop-append-le, drop_at, drop-cons}
 pub use Rattle.block.proofs.Base.{drop_of_length-le, eq-eqb, eqb, eqb-false, eqb-true, false, get_or, get_or-set_other, get_or-set_same}
-pub use Rattle.block.proofs.Base.{get_or-take, inl, inr, le-leb, le-ltb, leb, leb-true, length, length-append, length-drop, length-map}
-pub use Rattle.block.proofs.Base.{length-replicate, length-set, length-take, length-take-le, lit<, lt-leb, lt-ltb, ltb, ltb-false, ltb-true}
-pub use Rattle.block.proofs.Base.{mod-eq_of_lt, ne_eqb, rules, not, not-false, not-true, refl, replicate, set, sub-zero, suc, sym}
-pub use Rattle.block.proofs.Base.{take, take-add, take-append-drop, take-append-le, take_at, take-length, true, zero, zero-add, ℕ, ⊎_elim}
+pub use Rattle.block.proofs.Base.{get_or-take, inl, inr, le-leb, le-ltb, leb, leb-true, length, length-append, length-drop}
+pub use Rattle.block.proofs.Base.{length-replicate, length-set, length-take-le, lit<, lt-leb, lt-ltb, ltb, ltb-false, ltb-true}
+pub use Rattle.block.proofs.Base.{mod-eq_of_lt, ne_eqb, rules, not-false, refl, replicate, set, sub-zero, suc, sym}
+pub use Rattle.block.proofs.Base.{take, take-add, take-append-drop, take-append-le, take_at, true, zero, zero-add, ℕ, ⊎_elim}
 pub use Rattle.block.proofs.Convert.{bytes_of-number_of, length-bytes_of, number_of-bytes_of, number_of-lt}
 pub use Rattle.block.proofs.Entries.{below_at, below-drop, below-replicate, below-take}
 pub use Rattle.block.proofs.Same.{and_left, and_right, by_test, same_equal, same_refl}
-pub use Rattle.block.proofs.Tails.{over-behind, returned, tail_is, tailed}
+pub use Rattle.block.proofs.Tails.{over-append, over-behind, returned, tail_is, tailed}
 pub use Rattle.block.specs.Below.{AreBytes, Below}
 unfoldable pub use Rattle.block.specs.BigEndian.{number_of, bytes_of}
 pub use Rattle.block.specs.Over.{over}

@@ -1,17 +1,21 @@
 -- The parts of a record are written one behind the other.
-use Rattle.journal.proofs.Names.{Call, Entry, List, ◌++◌, ◌+◌, ◌∙◌, ◌≡◌, ◌≤◌, answered_of, ap, append_assoc, arith, asked_of, drop}
-use Rattle.journal.proofs.Names.{entry_of, false, head, head_of, le-ltb, length, length-append, length-bytes_of, middle, middle_of, over}
-use Rattle.journal.proofs.Names.{over-behind, part, returned, sym, tailed, take, take-length, too_long, write, written, ℕ}
+use Rattle.journal.proofs.Names.{Call, Entry, List, ◌++◌, ◌+◌, ◌-◌, ◌∙◌, ◌≡◌, ◌≤◌, answered_of, ap, append_assoc, arith, asked_of}
+use Rattle.journal.proofs.Names.{drop, entry_of, false, head, head_of, le-ltb, length, length-append, length-bytes_of, middle, middle_of, over}
+use Rattle.journal.proofs.Names.{drop_at, over-append, over-behind, part, returned, sym, tailed, take, take_at, too_long, write}
+use Rattle.journal.proofs.Names.{written, ℕ}
 use Rattle.journal.specs.declared.writer.Wrote.TheVariants.{Done}
 
--- a whole list that was copied
-pub whole_copied : (s o o₁ : List ℕ) → o₁ ≡ take (length s) s ++ drop (length s) o → o₁ ≡ over s o
-whole_copied s o o₁ e = e ∙ rw take-length
+-- a copy of p at the front of an output, and behind it a copy of q
+pub copied_behind : (p q m o t : List ℕ) (n : ℕ) → m ≡ p → length p ≡ n → t ≡ q
+    → take n (m ++ drop n o) ++ (t ++ drop (n + length q - n) (drop n (m ++ drop n o))) ≡ over (p ++ q) o
+copied_behind p q m o t n e l f =
+    let k : n + length q - n ≡ length q = omega arith in
+    rw (k, f, e, take_at p (drop n o) n l, drop_at p (drop n o) n l, ← l) (sym (over-append p q o))
 
--- a copy of p, and behind it q
-pub copied_then : (p q m o o₁ t : List ℕ) (n : ℕ) → m ≡ p → length p ≡ n → o₁ ≡ take (length m) m ++ drop (length m) o
-    → t ≡ over q (tailed n o₁) → returned n o₁ t ≡ over (p ++ q) o
-copied_then p q m o o₁ t n e l f g = over-behind p q o o₁ t n l (whole_copied m o o₁ f ∙ rw e) g
+-- a copy of p, and behind it q, which was put over what stands there
+pub copied_then : (p q m o t : List ℕ) (n : ℕ) → m ≡ p → length p ≡ n → t ≡ over q (tailed n (m ++ drop n o))
+    → returned n (m ++ drop n o) t ≡ over (p ++ q) o
+copied_then p q m o t n e l f = over-behind p q o (m ++ drop n o) t n l (rw (e, l)) f
 
 pub length-part-of : (p : List ℕ) → length (part p) ≡ 4 + length p
 unfolding part

@@ -1,5 +1,6 @@
 -- The recorded calls of a journal: how they are written, one after another, and how they are read. Numbers are big-endian.
-use Rattle.std.specs.Prelude.{ℕ, zero, suc, ◌+◌, ◌-◌, ◌<◌, ◌^◌, ◌≤◌, ◌≡◌, Bool, true, ◌&&◌, ◌||◌, cond, List, [], ◌∷◌, ◌++◌, leb, ltb, eqb, length, get_or, take, drop}
+use Rattle.std.specs.Prelude.{ℕ, zero, suc, ◌+◌, ◌-◌, ◌<◌, ◌^◌, ◌≤◌, ◌≡◌, Bool, true, ◌&&◌, ◌||◌, cond, List, [], ◌∷◌}
+use Rattle.std.specs.Prelude.{◌++◌, leb, ltb, eqb, length, get_or, take, drop}
 use Rattle.block.specs.Below.{AreBytes}
 use Rattle.block.specs.BigEndian.{number_of, bytes_of}
 use Rattle.block.specs.Words.{word_at}

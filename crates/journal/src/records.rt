@@ -2,7 +2,8 @@
 ghost use Rattle.std.specs.Prelude.{◌≡◌, true, [], ◌∷◌, ◌≤◌, length, get_or, drop};
 ghost use Rattle.block.specs.BigEndian.{number_of};
 ghost use Rattle.block.specs.Words.{word_at};
-ghost use Rattle.journal.specs.Format.{starts_part, part_at, behind, past_part, from_label, from_data, from_iv, from_room, from_output, marked, size_at, Stands, direction_of, front, past_limit, too_long};
+ghost use Rattle.journal.specs.Format.{starts_part, part_at, behind, past_part, from_label, from_data, from_iv, from_room, from_output};
+ghost use Rattle.journal.specs.Format.{marked, size_at, Stands, direction_of, front, past_limit, too_long};
 
 use cipher_mode::Direction;
 

@@ -1,5 +1,5 @@
 -- `cbc::decrypt_blocks` meets its contract: what goes on from where the batches have come to ends the walk (`reached-end`, `reached-over`).
-use Rattle.cbc.proofs.Names.{◌∙◌, arith, cbc_decrypt, reached-end, reached-over, reverse, unwords}
+use Rattle.cbc.proofs.Names.{◌∙◌, cbc_decrypt, reached-end, reached-over, reverse, unwords}
 use Rattle.cbc.proofs.decrypt_blocks.Goals as goal
 
 pub returns : goal.returns

@@ -1,5 +1,4 @@
 -- `cipher_mode::work::by_stream` meets its contract: the IV's words spell it, and the chain is as long as the data.
-use Rattle.block.proofs.Base.{◌<◌, ℕ, arith, get_or}
 use Rattle.walk.specs.Walk.{chain}
 use Rattle.stream.specs.Stream.{stream_mode}
 use Rattle.stream.proofs.RoundTrip.{length-stream}

@@ -19,4 +19,10 @@ differs_spec =
     let n = o.before in
     let told = n.number.ensures in
     unfold differs_from front in
-    rw (← told, eq-eqb _ _ n.if-number-answered.false, ← o.output-recorded.ensures, eq-eqb _ _ l.if-recorded-answered.false, ← c.alike.ensures)))
+    rw (
+      ← told,
+      eq-eqb _ _ n.if-number-answered.false,
+      ← o.output-recorded.ensures,
+      eq-eqb _ _ l.if-recorded-answered.false,
+      ← c.alike.ensures,
+    )))

@@ -7,5 +7,13 @@ pub past_limit_spec : {M : Type 1} → statement M
 past_limit_spec =
     tie.close (tie.spec (λ c. unfold past_limit in rw (lt-ltb _ _ c.if-label-gt-PART_LIMIT.true))
     (λ c. unfold past_limit in rw (le-ltb _ _ c.if-label-gt-PART_LIMIT.false, lt-ltb _ _ c.if-data-gt-PART_LIMIT.true))
-    (λ c. unfold past_limit in rw (le-ltb _ _ c.if-label-gt-PART_LIMIT.false, le-ltb _ _ c.if-data-gt-PART_LIMIT.false, lt-ltb _ _ c.if-iv-gt-PART_LIMIT.true))
-    (λ c. unfold past_limit in rw (le-ltb _ _ c.if-label-gt-PART_LIMIT.false, le-ltb _ _ c.if-data-gt-PART_LIMIT.false, le-ltb _ _ c.if-iv-gt-PART_LIMIT.false)))
+    (λ c. unfold past_limit in rw (
+      le-ltb _ _ c.if-label-gt-PART_LIMIT.false,
+      le-ltb _ _ c.if-data-gt-PART_LIMIT.false,
+      lt-ltb _ _ c.if-iv-gt-PART_LIMIT.true,
+    ))
+    (λ c. unfold past_limit in rw (
+      le-ltb _ _ c.if-label-gt-PART_LIMIT.false,
+      le-ltb _ _ c.if-data-gt-PART_LIMIT.false,
+      le-ltb _ _ c.if-iv-gt-PART_LIMIT.false,
+    )))
