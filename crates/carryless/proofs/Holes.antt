@@ -6,7 +6,7 @@ use Rattle.block.proofs.Base.{add-le-add, add-mod, add-mul, add-zero, div-add-mo
 use Rattle.block.proofs.Base.{lt_of_lt_of_le, lt-suc_self, lt_trans, mod-eq_of_lt, mod-lt, mul-div_cancel, mul-mod_left, mul_right_comm}
 use Rattle.block.proofs.Base.{one-mul, pow-le-pow_right, suc-add, zero-add, zero-div, zero-mod, zero-mul, add-one, one-add, arith}
 use Rattle.block.proofs.Base.{digits_div, digits_mod, and_block, and_mask, and_zero_r, bit_and, shifted_even, xor_block, lit<, mod-mod-pow}
-use Rattle.block.proofs.Base.{pow_pos, split}
+use Rattle.block.proofs.Base.{pow_pos, split, subst}
 use lib.Bits.{xor_add_and, xor_mod}
 use Rattle.block.specs.Xor.{◌⊕◌}
 use Rattle.block.proofs.Xor.{bit-lt}
@@ -152,7 +152,7 @@ module _ (w : ℕ) where
       let g : Few (suc k) (suc (k + m)) (X * y * base) = few-up (suc k) (k + m) (X * y) r.few in
       let s = sums 1 (suc k) (rw (one-add (suc k)) l) (suc (k + m)) (x % 2 * y) (X * y * base) f g in
       record {
-        few = rw (suc-add k m, e) (rw (one-add (suc k)) at s.0);
+        few = rw (suc-add k m, e) (subst (λ (n : ℕ). Few n (suc (k + m)) (x % 2 * y + X * y * base)) (one-add (suc k)) s.0);
         bits =
             ap₂ (λ (v j : ℕ). bit_and v (ones j)) e (suc-add k m)
             ∙ s.1

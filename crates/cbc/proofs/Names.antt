@@ -4,7 +4,7 @@ pub use types.Run.{OneOf}
 pub use Rattle.block.proofs.Base.{Fits, List, [], ◌%◌, ◌*◌, ◌++◌, ◌+◌, ◌-◌, ◌/◌, ◌<◌, ◌^◌, ◌∙◌, ◌∷◌, ◌≡◌, ◌≤◌, ap, append_assoc, append-nil}
 pub use Rattle.block.proofs.Base.{arith, drop, drop-append-add, drop_at, drop-drop, get_or, length, length-append, length-drop, length-set}
 pub use Rattle.block.proofs.Base.{length-take-le, rules, refl, reverse, reverse-reverse, sub-zero, suc, sym, take, take-add, take_all}
-pub use Rattle.block.proofs.Base.{take-append-drop, take-append-le, take-append_seam, take_at, w32, zero, ℕ}
+pub use Rattle.block.proofs.Base.{inl, inr, take-append-drop, take-append-le, take-append_seam, take_at, w32, zero, ℕ, ◌≢◌}
 pub use Rattle.block.proofs.Cat.{cat-same, length-block_at, length-cat}
 pub use Rattle.block.proofs.Entries.{below-append, below-drop, below_each, below-replicate, below-take}
 pub use Rattle.block.proofs.Fill.{copy_turn}
@@ -28,7 +28,7 @@ pub use Rattle.padding.specs.contracts.Opened.{the_type}
 pub use Rattle.padding.proofs.Unpadded.{behind, padded-unpadded, unpadded-behind, unpadded-le, unpadded-padded}
 pub use Rattle.padding.specs.Padding.{opened_into, padded, padding, unpadded}
 pub use Rattle.padding.specs.declared.Opened.{Opened}
-pub use Rattle.padding.specs.declared.Opened.TheVariants.{Done}
+pub use Rattle.padding.specs.declared.Opened.TheVariants.{Done, InvalidLastU8, InvalidPadding}
 pub use Rattle.sixteen.proofs.Before.{block-before}
 pub use Rattle.sixteen.proofs.Onward.{reached-end, reached-over, states_before}
 pub use Rattle.sixteen.proofs.Padded.{block_of, xored-blocks}

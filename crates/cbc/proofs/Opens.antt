@@ -1,9 +1,15 @@
 -- Opening by parts: the last block decides, then the front is written, and then what the padding leaves of the last block.
-use Rattle.cbc.proofs.Names.{Done, List, OneOf, Opened, [], ◌%◌, ◌++◌, ◌+◌, ◌-◌, ◌∙◌, ◌∷◌, ◌≡◌, ◌≤◌, append_assoc, arith, behind}
+use Rattle.cbc.proofs.Names.{Done, List, OneOf, Opened, [], ◌%◌, ◌++◌, ◌+◌, ◌-◌, ◌∙◌, ◌∷◌, ◌≡◌, ◌≢◌, ◌≤◌, append_assoc, arith, behind}
 use Rattle.cbc.proofs.Names.{cbc_text, drop, drop_at, drop-drop, into, length, length-drop, length-take-le, opened_into, over}
 use Rattle.cbc.proofs.Names.{refusing, returned, returned_is, sym, tag_of, tail_is, tailed, take, take-add, take-append-drop, take_at}
-use Rattle.cbc.proofs.Names.{the_type, unpadded, unpadded-behind, unpadded-le, ℕ}
+use Rattle.cbc.proofs.Names.{InvalidLastU8, InvalidPadding, inl, inr, refl, the_type, unpadded, unpadded-behind, unpadded-le, ℕ}
 use Rattle.cbc.proofs.Blocks.{decrypt-front, length-decrypt}
+
+-- what is not done is one of the two refusals
+refused_one : (a : Opened) → ((k : ℕ) → a ≢ Done k) → OneOf (1 ∷ 2 ∷ []) (tag_of the_type a)
+refused_one (Done n) h = absurd (h n refl)
+refused_one InvalidLastU8 h = inl refl
+refused_one InvalidPadding h = inr refl
 
 module _ (rk s d last o : List ℕ) (hs : length s ≡ 16) (full : 16 ≤ length d) (whole : length d % 16 ≡ 0)
     (last_is : last ≡ drop (length d - 16) (cbc_text rk s d)) where
@@ -24,10 +30,10 @@ module _ (rk s d last o : List ℕ) (hs : length s ≡ 16) (full : 16 ≤ length
       let l : length (take f p) ≡ f = length-take-le f p (omega (arith, text-length)) in
       rw (in_parts, l, e) at (unpadded-behind (take f p) last (omega (arith, last-length)))
 
-  pub open_refused : (a : Opened) → OneOf (1 ∷ 2 ∷ []) (tag_of the_type a) → unpadded last ≡ a
+  pub open_refused : (a : Opened) → ((k : ℕ) → a ≢ Done k) → unpadded last ≡ a
       → (a ≡ unpadded (cbc_text rk s d)) × (o ≡ opened_into (cbc_text rk s d) o)
-  open_refused a told e =
-      let r = refusing a told (length d - 16) in
+  open_refused a other e =
+      let r = refusing a (refused_one a other) (length d - 16) in
       let u : unpadded (cbc_text rk s d) ≡ a = text_decided a e ∙ r.0 in
       (sym u, sym (into (cbc_text rk s d) o a u ∙ rw r.1))
 

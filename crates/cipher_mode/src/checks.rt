@@ -66,6 +66,7 @@ fn retired(direction: Direction, retired: bool) -> Checked
 }
 
 // The key's answer is a key, the IV has a size that the mode takes, and the key may do what is asked.
+#[tactic(auto, unfolding(crate::specs::Checks::key_and_iv))]
 pub fn key_and_iv(
     answer: KeyAnswer,
     mark: bool,
@@ -148,6 +149,7 @@ fn shape(direction: Direction, mode: CipherMode, n: usize) -> Checked
     }
 }
 
+#[tactic(auto, unfolding(crate::specs::Checks::data_check))]
 pub fn data(direction: Direction, mode: CipherMode, n: usize) -> Checked
     ensures { result ≡ data_check direction mode n }
 {
@@ -171,6 +173,7 @@ pub fn encrypted_length(mode: CipherMode, n: usize) -> usize
     }
 }
 
+#[tactic(auto, using(crate::proofs::Passed::with_tag_passed))]
 fn room_of(direction: Direction, mode: CipherMode, n: usize) -> usize
     requires { data_check direction mode n ≡ Checked.Passed }
     ensures { result ≡ room_of mode direction n }
@@ -188,6 +191,7 @@ fn room_of(direction: Direction, mode: CipherMode, n: usize) -> usize
 }
 
 // The room, for data that is in order.
+#[tactic(auto, unfolding(crate::specs::Checks::room_check))]
 pub fn room(direction: Direction, mode: CipherMode, n: usize, room: usize) -> Checked
     requires { data_check direction mode n ≡ Checked.Passed }
     ensures { result ≡ room_check direction mode n room }
@@ -199,6 +203,7 @@ pub fn room(direction: Direction, mode: CipherMode, n: usize, room: usize) -> Ch
 }
 
 // A message, either way: all stages.
+#[tactic(auto, unfolding(crate::specs::Checks::message_check))]
 pub fn message(
     answer: KeyAnswer,
     mark: bool,
@@ -224,6 +229,7 @@ pub fn message(
 }
 
 // A single block, either way.
+#[tactic(auto, unfolding(crate::specs::Checks::block_check))]
 pub fn block(answer: KeyAnswer, mark: bool, direction: Direction, n: usize, room: usize) -> Checked
     ensures { result ≡ block_check answer mark direction n room }
 {

@@ -70,6 +70,7 @@ pub fn number_in(answer: KeyAnswer, number: u16) -> u16
 }
 
 // The mode of a number; 4 and above are Gcm, and who has a number refuses what is above.
+#[tactic(auto, unfolding(crate::specs::Tables::mode_of))]
 pub fn mode_of(mode: u32) -> CipherMode
     ensures { result ≡ mode_of mode }
 {
@@ -126,6 +127,7 @@ fn no_cipher(answer: KeyAnswer) -> Sm4Cipher
 
 impl Sm4Cipher {
     // The record of a new key: 16 bytes, and a number from 1 to 65,535.
+    #[tactic(auto, unfolding(crate::specs::Key::new_cipher))]
     pub fn new(key: &[u8], number: u32) -> Sm4Cipher
         ensures { result ≡ new_cipher key.now number }
     {
@@ -149,6 +151,7 @@ impl Sm4Cipher {
     }
 
     // The record retired: it decrypts and encrypts no more. There is no way back. What is no key stays what it was.
+    #[tactic(auto, unfolding(crate::specs::Key::retire))]
     pub fn retire(self) -> Sm4Cipher
         ensures { result ≡ retire self }
     {
@@ -170,6 +173,7 @@ impl Sm4Cipher {
 
     // The record with the mark of an engine: `cipher::FOUR_TABLES`, `cipher::GATES` or `cipher::PLAIN`, and under all else the library
     // chooses.
+    #[tactic(auto, unfolding(crate::specs::Key::with_engine))]
     pub fn with_engine(self, engine: u8) -> Sm4Cipher
         ensures { result ≡ with_engine engine self }
     {
@@ -215,6 +219,7 @@ impl Sm4Cipher {
 }
 
 impl Sm4CipherMode {
+    #[tactic(auto, unfolding(crate::specs::Key::new_cipher_mode))]
     pub fn new(key: &[u8], number: u32, mode: CipherMode) -> Sm4CipherMode
         ensures { result ≡ new_cipher_mode key.now number mode }
     {

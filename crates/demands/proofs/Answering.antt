@@ -1,11 +1,11 @@
 -- An outcome is answered as demand 1 asks: a refusal, or a success whose result has the table's length and fits. The numbers are those of
 -- the rows that tell which one is answered.
 use Rattle.demands.specs.Names as N
-use N.{not, Bool, ◌&&◌, cond, false, true, List, [], ◌∷◌, map, ◌≢◌, ◌⊎◌, inl, inr, ◌∙◌, ◌≡◌, ap, refl, ◌<◌, ◌≤◌, ℕ, arith, eqb, drop, get_or}
-use N.{length, length-append, length-drop, drop_at, eqb-false, Head, Outcome, finished, refusal, refuseAs, over, refusal_head, checked}
-use N.{Refusal, EmptyCbc, Ended, ErrorBlockSize, ErrorDataLen, RefusalLastU8, RefusalPadding, RefusalTag, NoRoom, Retired, ShortGcm}
-use N.{TooLong, WrongBlock, WrongIv, WrongNumber, Checked, Passed, Refused, Stepped, begun, goes_on, under, Verdict, checked_verdict}
-use N.{none_with, on_key}
+use N.{not, Bool, ◌&&◌, cond, false, true, List, [], ◌∷◌, map, ◌≢◌, ◌⊎◌, inl, inr, ◌∙◌, ◌≡◌, ap, refl, ◌<◌, ◌≤◌, ℕ, arith, eqb, drop}
+use N.{get_or, length, length-append, length-drop, drop_at, eqb-false, Head, Outcome, finished, refusal, refuseAs, over, refusal_head}
+use N.{checked, Refusal, EmptyCbc, Ended, ErrorBlockSize, ErrorDataLen, RefusalLastU8, RefusalPadding, RefusalTag, NoRoom, Retired}
+use N.{ShortGcm, TooLong, WrongBlock, WrongIv, WrongNumber, Checked, Passed, Refused, Stepped, begun, goes_on, under, Verdict}
+use N.{checked_verdict, none_with, on_key}
 use Rattle.block.proofs.Same.{by_test}
 use Rattle.cipher_mode.proofs.Refusals.{refuses}
 use Rattle.demands.specs.Answered.{one_of, Answered}
@@ -48,10 +48,12 @@ pub is_false : (m n : ℕ) → eqb m n ≡ false → (t : Bool) → cond t m n �
 is_false m n d t e = by_test t (λ f. absurd (eqb-false m n d (rw f at e))) (λ f. f)
 
 pub one-or-none : (t : Bool) → (◌≡◌ {A = ℕ} (cond t 1 0) 1) ⊎ (◌≡◌ {A = ℕ} (cond t 1 0) 0)
-one-or-none t = elim t [ true ↦ inl refl | false ↦ inr refl ]
+one-or-none true = inl refl
+one-or-none false = inr refl
 
 pub mark_back : (t : Bool) → not (eqb (cond t 1 0) 0) ≡ t
-mark_back t = elim t [ true ↦ refl | false ↦ refl ]
+mark_back true = refl
+mark_back false = refl
 
 -- the report behind a check, h being that of what comes next
 unfoldable pub head_behind : Checked → Head → Head
@@ -61,24 +63,31 @@ head_behind (Refused r) h = refusal_head r
 -- of a call, of a piece or an end, and of a start; and behind a refusal by number
 pub checked-head : (k : Checked) (o : List ℕ) (next : Outcome) → (checked k o next).head ≡ head_behind k next.head
 unfolding head_behind
-checked-head k o next = elim k [ Passed ↦ refl | Refused r ↦ refl ]
+checked-head Passed o next = refl
+checked-head (Refused r) o next = refl
 
 pub step-head : (S : Type 0) (k : Checked) (o : List ℕ) (s : S) (next : Stepped S) → (goes_on S k o s next).head ≡ head_behind k next.head
 unfolding head_behind
-step-head S k o s next = elim k [ Passed ↦ refl | Refused r ↦ refl ]
+step-head S Passed o s next = refl
+step-head S (Refused r) o s next = refl
 
 pub start-head : (S : Type 0) (k : Checked) (shut : ℕ → S) (s : S) → (begun S k shut s).head ≡ head_behind k (finished 0)
 unfolding head_behind
-start-head S k shut s = elim k [ Passed ↦ refl | Refused r ↦ refl ]
+start-head S Passed shut s = refl
+start-head S (Refused r) shut s = refl
 
 pub front-head : (t : Bool) (k : ℕ) (o : List ℕ) (next : Outcome) → (refuseAs t k o next).head ≡ cond t (refusal k) next.head
-front-head t k o next = elim t [ true ↦ refl | false ↦ refl ]
+front-head true k o next = refl
+front-head false k o next = refl
 
 -- and of the question which label a file opens under
 pub verdict-head : (bad : Bool) (n : ℕ) (k : Checked) (v : Verdict) → v.head ≡ finished 0
-    → (cond bad (none_with (refusal 16)) (on_key n (checked_verdict k v))).head ≡ cond bad (refusal 16) (under n (head_behind k (finished 0)))
+    → (cond bad (none_with (refusal 16)) (on_key n (checked_verdict k v))).head
+    ≡ cond bad (refusal 16) (under n (head_behind k (finished 0)))
 unfolding head_behind
-verdict-head bad n k v e = elim bad [ true ↦ refl | false ↦ elim k [ Passed ↦ ap (under n) e | Refused r ↦ refl ] ]
+verdict-head true n k v e = refl
+verdict-head false n Passed v e = ap (under n) e
+verdict-head false n (Refused r) v e = refl
 
 pub ruleset heads = (checked-head, step-head, start-head, front-head, verdict-head)
 
@@ -129,8 +138,10 @@ module _ (o : List ℕ) (n : ℕ) where
   -- a check in front, or what comes next, which may count on it that the check passed; and a refusal by number k
   pub checks_fair : (k : Checked) (next : Outcome) → (k ≡ Passed → Fair next.head next.bytes)
       → Fair (checked k o next).head (checked k o next).bytes
-  checks_fair k next = elim k [ Passed ↦ λ f. f refl | Refused r ↦ λ _. refusal_fair r ]
+  checks_fair Passed next f = f refl
+  checks_fair (Refused r) next _ = refusal_fair r
 
   pub front_fair : (t : Bool) (k : ℕ) (next : Outcome) → 0 < k → (t ≡ false → Fair next.head next.bytes)
       → Fair (refuseAs t k o next).head (refuseAs t k o next).bytes
-  front_fair t k next h = elim t [ true ↦ λ _. refused_fair k h | false ↦ λ f. f refl ]
+  front_fair true k next h _ = refused_fair k h
+  front_fair false k next h f = f refl

@@ -3,12 +3,12 @@
 use Rattle.demands.specs.Names as N
 use N.{Bool, cond, false, true, List, [], ◌∷◌, ◌∙◌, ◌≡◌, ap, refl, ◌%◌, ◌+◌, ◌-◌, ◌/◌, ◌<◌, ◌^◌, ◌≤◌, ℕ, arith, eqb, ltb, length}
 use N.{length-append, drop_at, length-take-le, take_at, eq-eqb, eqb-false, eqb-true, lt-leb, AreBytes, bytes_of, number_of, same, xors}
-use N.{blocks_of, ctr_came_round, gcm_came_round, gcm_next, last_four, Head, finished, refusal, telling, under, ctr_walk_says, gcm_walk_says, J0}
-use N.{first_counter, hash_key, sealed, text_of, text_part, block_call, mode_call, mode_result, limit_of, mode_of, CipherMode, Ctr, Gcm, Direction}
-use N.{Decrypt, Encrypt, Checked, Passed, Refused, ctr_end, ctr_piece, ctr_start, opens_end, opens_piece, opens_start, seal_end, seal_piece}
-use N.{seal_start, hash_end, CtrState, Opens, Seal, bad_list, which, plan_call, range_call, Plan, host_block_call, host_mode_call, host_ctr_start}
-use N.{host_opens_start, accepts, not, host_seal_start, cipher_in, host_ctr_by_plan, host_ctr_range, host_which, LuossavinKey, ⊎_elim, data_check}
-use N.{wrong_iv}
+use N.{blocks_of, ctr_came_round, gcm_came_round, gcm_next, last_four, Head, finished, refusal, telling, under, ctr_walk_says}
+use N.{gcm_walk_says, J0, first_counter, hash_key, sealed, text_of, text_part, block_call, mode_call, mode_result, limit_of, mode_of}
+use N.{CipherMode, Ctr, Gcm, Direction, Decrypt, Encrypt, Checked, Passed, Refused, ctr_end, ctr_piece, ctr_start, opens_end, opens_piece}
+use N.{opens_start, seal_end, seal_piece, seal_start, hash_end, CtrState, Opens, Seal, bad_list, which, plan_call, range_call, Plan}
+use N.{host_block_call, host_mode_call, host_ctr_start, host_opens_start, accepts, not, host_seal_start, cipher_in, host_ctr_by_plan}
+use N.{host_ctr_range, host_which, LuossavinKey, ⊎_elim, data_check, wrong_iv}
 use Rattle.block.proofs.Convert.{length-bytes_of, bytes_of-bytes}
 use Rattle.demands.specs.CameRound.{followed_by, CountsFromTwo, round_of, Says}
 use Rattle.demands.proofs.Through.{result-of-done, host_through, host_leaves}
@@ -61,7 +61,8 @@ module _ {b : Bool} where
 
   -- by what decides between two, behind a check, and on whichever key
   either-says : (t : Bool) {g h : Head} → Says b g → Says b h → Says b (cond t g h)
-  either-says t p q = elim t [ true ↦ p | false ↦ q ]
+  either-says true p q = p
+  either-says false p q = q
 
   behind-says : (k : Checked) {h : Head} → (k ≡ Passed → Says b h) → Says b (head_behind k h)
   unfolding head_behind

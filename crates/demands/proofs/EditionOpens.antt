@@ -1,12 +1,12 @@
 -- Whether a file opens under a job and an edition: the question answers what the opening call does, given room, and a file that opens
 -- under one edition is refused as 4 under every other. And which of many labels it opens under.
 use Rattle.demands.specs.Names as N
-use N.{Bool, cond, false, true, List, [], ◌∷◌, ◌≢◌, ◌⊎◌, ◌∙◌, ◌≡◌, ap, refl, sym, ◌-◌, ◌<◌, ◌^◌, ◌≤◌, suc, zero, ℕ, arith, ltb, drop, get_or}
-use N.{length, length-take, take, le-ltb, ltb-false, Head, Outcome, finished, keyed, refusal, under, gcm_open, mode_call, and_then}
-use N.{checked, key_check, refuse, wrong_iv, data_check, key_and_iv, message_check, room_check, key_number, limit, sealed_limit, mode_of, Gcm}
-use N.{Decrypt, KeyAnswer, NoKey, Key, NoNumber, Sm4Cipher, ShortGcm, TooLong, WrongIv, Checked, Passed, Refused, gcm_starting, any_too_long}
-use N.{bad_list, label_at, Verdict, checked_verdict, opens_with, search_check, which, label_of, checked_head, host_edition_opens, opens_head}
-use N.{host_mode_call, cipher_in, host_key_engine, host_which, LuossavinKey}
+use N.{Bool, cond, false, true, List, [], ◌∷◌, ◌≢◌, ◌⊎◌, ◌∙◌, ◌≡◌, ap, refl, sym, ◌-◌, ◌<◌, ◌^◌, ◌≤◌, suc, zero, ℕ, arith, ltb, drop}
+use N.{get_or, length, length-take, take, le-ltb, ltb-false, Head, Outcome, finished, keyed, refusal, under, gcm_open, mode_call, and_then}
+use N.{checked, key_check, refuse, wrong_iv, data_check, key_and_iv, message_check, room_check, key_number, limit, sealed_limit, mode_of}
+use N.{Gcm, Decrypt, KeyAnswer, NoKey, Key, NoNumber, Sm4Cipher, ShortGcm, TooLong, WrongIv, Checked, Passed, Refused, gcm_starting}
+use N.{any_too_long, bad_list, label_at, Verdict, checked_verdict, opens_with, search_check, which, label_of, checked_head}
+use N.{host_edition_opens, opens_head, host_mode_call, cipher_in, host_key_engine, host_which, LuossavinKey}
 use Rattle.block.proofs.Same.{by_test}
 use Rattle.cipher_mode.proofs.Refusals.{refuses}
 use Rattle.label.proofs.LabelTells.{length_label}

@@ -3,10 +3,11 @@
 use Rattle.demands.specs.Names as N
 use N.{cond, List, [], ◌∷◌, map, ◌∙◌, ◌≡◌, ap, refl, sym, ◌+◌, suc, zero, ℕ, eqb, drop, length, take, block_call, mode_call, key_and_iv}
 use N.{key_number, with_engine, Ctr as CtrMode, Encrypt, Sm4Cipher, Checked, Passed, Refused, Stepped, begun, goes_on, step_on, ctr_end}
-use N.{ctr_piece, ctr_start, opens_start, seal_end, seal_piece, seal_start, gcm_starting, running, writing, ctr_after, seal_after, CtrState as Ctr}
-use N.{Seal, which, plan_call, range_call, frontJournal as front, sizeAtJournal as size_at, key_at, any_retired, bad_keys, number_twice, place_of}
-use N.{call_into, replay, replay_one, replay_up_to, nothing, Report, host_block_call, host_mode_call, direction_of, host_ctr_start, host_opens_start}
-use N.{host_seal_start, host_replay, keys_of, cipher_in, host_key_engine, host_ctr_by_plan, host_ctr_range, host_which, LuossavinKeys, LuossavinKey}
+use N.{ctr_piece, ctr_start, opens_start, seal_end, seal_piece, seal_start, gcm_starting, running, writing, ctr_after, seal_after}
+use N.{CtrState as Ctr, Seal, which, plan_call, range_call, frontJournal as front, sizeAtJournal as size_at, key_at, any_retired, bad_keys}
+use N.{number_twice, place_of, call_into, replay, replay_one, replay_up_to, nothing, Report, host_block_call, host_mode_call, direction_of}
+use N.{host_ctr_start, host_opens_start, host_seal_start, host_replay, keys_of, cipher_in, host_key_engine, host_ctr_by_plan}
+use N.{host_ctr_range, host_which, LuossavinKeys, LuossavinKey}
 use Rattle.demands.specs.EngineUnseen.{unmarked, unmarked_ctr, unmarked_seal, seen, CtrAlike, SealAlike, unmarked_host, ReportedAlike}
 use Rattle.demands.specs.EngineUnseen.{unmarked_keys}
 use mathlib.Core.List.{map-map}
@@ -23,14 +24,15 @@ starts_alike without n Passed shut s t e = rw e
 starts_alike without n (Refused r) shut s t e = refl
 
 goes_alike : {S : Type 0} (without : S → S) (n : ℕ) (k : Checked) (o : List ℕ) (s t : S) (x y : Stepped S) → without s ≡ without t
-    → seen S without x ≡ seen S without y → seen S without (step_on S n (goes_on S k o s x)) ≡ seen S without (step_on S n (goes_on S k o t y))
+    → seen S without x ≡ seen S without y
+    → seen S without (step_on S n (goes_on S k o s x)) ≡ seen S without (step_on S n (goes_on S k o t y))
 goes_alike {S} without n Passed o s t x y e f = ap (step_on S n) f
 goes_alike without n (Refused r) o s t x y e f = rw e
 
 -- Records that are alike but for the engine.
 pub engine_unseen : (k l : LuossavinKey) → unmarked_host k ≡ unmarked_host l → ReportedAlike k l
-unfolding host_key_engine cipher_in host_block_call block_call host_mode_call mode_call host_ctr_start ctr_start ctr_after host_seal_start seal_start
-    seal_after host_opens_start opens_start host_which which host_ctr_range range_call host_ctr_by_plan plan_call
+unfolding host_key_engine cipher_in host_block_call block_call host_mode_call mode_call host_ctr_start ctr_start ctr_after host_seal_start
+    seal_start seal_after host_opens_start opens_start host_which which host_ctr_range range_call host_ctr_by_plan plan_call
 engine_unseen k l alike =
     record {
       block = λ dir b o. by_mark unmarked_host k l alike (λ x. host_block_call dir x b o) (λ x. refl);
@@ -103,7 +105,8 @@ bad-unmarked (c ∷ cs) =
     (rw retired, rw (place-unmarked (key_number c) cs, length-map cs unmarked, twice))
 
 -- a record made again
-one-unmarked : (ks : List Sm4Cipher) (b : List ℕ) (place : ℕ) (r : Report) → replay_one (map unmarked ks) b place r ≡ replay_one ks b place r
+one-unmarked : (ks : List Sm4Cipher) (b : List ℕ) (place : ℕ) (r : Report)
+    → replay_one (map unmarked ks) b place r ≡ replay_one ks b place r
 unfolding replay_one call_into mode_call with_engine
 one-unmarked ks b place r =
     let n = (front b).key in

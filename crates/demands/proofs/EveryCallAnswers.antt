@@ -3,21 +3,22 @@
 use Rattle.demands.specs.Names as N
 use N.{suc, zero, NoKey, NoNumber, cond, false, not, true, List, ◌≢◌, ◌⊎◌, ⊎_elim, ◌∙◌, ◌≡◌, refl, ◌<◌, ◌≤◌, ℕ, arith, eqb, ltb, length}
 use N.{eq-eqb, le-ltb, lt-ltb, ne_eqb, done, refusal, refusal_head, block_call, block_of, lengths_of, mode_call, mode_result, block_check}
-use N.{data_check, key_and_iv, key_check, message_check, wrong_iv, key_number, new_cipher, new_cipher_mode, wrong_number, mode_of, room_of, CipherMode}
-use N.{Cbc, Cfb, Ctr, Gcm, Ofb, Direction, Decrypt, Encrypt, Refusal, ErrorBlockSize, WrongNumber, Passed, Refused, ctr_start, opens_start}
-use N.{seal_start, gcm_starting, search_check, which, plan_call, range_call, range_check, reach_check, call_into, host_block_call, host_mode_call}
-use N.{host_ctr_start, host_opens_start, host_seal_start, cipher_in, host_key_new, key_answer_of, host_ctr_by_plan, host_ctr_range, host_which, LuossavinKey}
+use N.{data_check, key_and_iv, key_check, message_check, wrong_iv, key_number, new_cipher, new_cipher_mode, wrong_number, mode_of, room_of}
+use N.{CipherMode, Cbc, Cfb, Ctr, Gcm, Ofb, Direction, Decrypt, Encrypt, Refusal, ErrorBlockSize, WrongNumber, Passed, Refused, ctr_start}
+use N.{opens_start, seal_start, gcm_starting, search_check, which, plan_call, range_call, range_check, reach_check, call_into}
+use N.{host_block_call, host_mode_call, host_ctr_start, host_opens_start, host_seal_start, cipher_in, host_key_new, key_answer_of}
+use N.{host_ctr_by_plan, host_ctr_range, host_which, LuossavinKey}
 use Rattle.block.proofs.Same.{by_test}
 use Rattle.demands.proofs.ModesBack.{encrypted, encrypts, length_encrypted, opening}
 use Rattle.cipher_mode.proofs.Passed.{message_passed, block_passed}
 use Rattle.cipher_mode.proofs.Ends.{length-block}
-use Rattle.demands.specs.Answered.{single_numbers, Answered, KeyAnswered, length_of}
+use Rattle.demands.specs.Answered.{one_of, single_numbers, Answered, KeyAnswered, length_of}
 use Rattle.demands.proofs.Through.{new_is_new}
 use mathlib.Core.Bool.{or-true}
 use Rattle.cipher_mode.specs.Key.{no_cipher}
 use Rattle.demands.specs.WhichNumber.{block_rows, encrypt_rows, decrypt_rows}
 use Rattle.demands.proofs.WhichNumber.{exported_block-number, exported_encryption_number, exported_decryption_number}
-use Rattle.demands.proofs.Answering.{numbered, Fair, answered, refused_fair, done_fair, checks_fair, front_fair}
+use Rattle.demands.proofs.Answering.{within, numbered, Fair, answered, refused_fair, done_fair, checks_fair, front_fair}
 use Rattle.demands.specs.NoUsableKey.{NoUsableKey}
 
 -- where one of the two ends of the range is passed, the number is wrong
@@ -53,7 +54,9 @@ block-answers dir k b o =
     let block = block_of dir c.rk b in
     let size = length-block dir c.rk b in
     answered o 16 single_numbers _ _
-    (numbered (block_rows dir k b o) single_numbers _ (elim dir [ Encrypt ↦ refl | Decrypt ↦ refl ]) (exported_block-number dir k b o)) refl
+    (numbered (block_rows dir k b o) single_numbers _
+    (elim dir as (λ (r : Direction). within (block_rows r k b o) single_numbers ≡ true) [ Encrypt ↦ refl | Decrypt ↦ refl ])
+    (exported_block-number dir k b o)) refl
     (checks_fair o 16 (block_check c.answer c.retired dir (length b) (length o)) (done block o) (λ e.
     done_fair o 16 block _ refl size (rw size (block_passed _ _ _ _ _ e).enough)))
 
@@ -64,11 +67,13 @@ result_fair : (m : CipherMode) (dir : Direction) (rk aad d iv o : List ℕ) → 
 result_fair m Encrypt rk aad d iv o n e r =
     let size = length_encrypted m rk aad d iv in
     let same : room_of m Encrypt (length d) ≡ length_of m Encrypt rk iv d =
-    elim m [ Cfb ↦ refl | Ofb ↦ refl | Ctr ↦ refl | Cbc ↦ refl | Gcm ↦ refl ] in
+    elim m as (λ (w : CipherMode). room_of w Encrypt (length d) ≡ length_of w Encrypt rk iv d)
+    [ Cfb ↦ refl | Ofb ↦ refl | Ctr ↦ refl | Cbc ↦ refl | Gcm ↦ refl ] in
     rw (encrypts m rk aad d iv o) (done_fair o _ (encrypted m rk aad d iv) _ refl (size ∙ same) (omega arith))
 result_fair m Decrypt rk aad d iv o n e r =
     let fits : length_of m Decrypt rk iv d ≤ room_of m Decrypt (length d) =
-    elim m [ Cfb ↦ omega arith | Ofb ↦ omega arith | Ctr ↦ omega arith | Cbc ↦ omega arith | Gcm ↦ omega arith ] in
+    elim m as (λ (w : CipherMode). length_of w Decrypt rk iv d ≤ room_of w Decrypt (length d))
+    [ Cfb ↦ omega arith | Ofb ↦ omega arith | Ctr ↦ omega arith | Cbc ↦ omega arith | Gcm ↦ omega arith ] in
     ⊎_elim (λ (k, some, x). rw x (refused_fair o _ k some))
     (λ t. let size = t.size in rw t.opened (done_fair o _ t.text _ refl size (omega arith))) (opening rk aad d iv o m n e)
 
@@ -83,7 +88,7 @@ message-answers dir mode k label d iv o =
     let m = mode_of mode in
     let n = length_of m dir k.round_keys iv d in
     answered o n single_numbers _ _
-    (elim dir [
+    (elim dir as (λ (r : Direction). one_of (host_mode_call r mode k label d iv o).head.number single_numbers ≡ true) [
       | Encrypt ↦ numbered (encrypt_rows mode k label d iv o) single_numbers _ refl (exported_encryption_number mode k label d iv o)
       | Decrypt ↦ numbered (decrypt_rows mode k label d iv o) single_numbers _ refl (exported_decryption_number mode k label d iv o)
     ])
@@ -99,9 +104,9 @@ message-answers dir mode k label d iv o =
 module _ (k : LuossavinKey) (n : ℕ) (r : Refusal) (check : key_check (cipher_in k).answer ≡ Refused r) (head : refusal_head r ≡ refusal n)
     (none : key_number (cipher_in k) ≡ 0) where
   turned_away : NoUsableKey n k
-  unfolding host_block_call block_call block_check host_mode_call mode_call message_check key_and_iv host_ctr_start ctr_start host_seal_start seal_start
-      gcm_starting host_opens_start opens_start host_which which search_check host_ctr_range range_call range_check reach_check host_ctr_by_plan plan_call
-      call_into
+  unfolding host_block_call block_call block_check host_mode_call mode_call message_check key_and_iv host_ctr_start ctr_start
+      host_seal_start seal_start gcm_starting host_opens_start opens_start host_which which search_check host_ctr_range range_call
+      range_check reach_check host_ctr_by_plan plan_call call_into
   turned_away =
       record {
         block = λ dir b o. rw (check, head, none);

@@ -3,8 +3,8 @@
 use Rattle.demands.specs.Names as N
 use N.{Mem, PairwiseCons, [], ◌∷◌, mem_of_ne_of_mem, mem-singleton, Pairwise-singleton, ◌≢◌, ⊎_elim, ◌≡◌, ap, refl, ◌+◌, ◌^◌, ◌≤◌, ℕ}
 use N.{eq-zero-or-pos, le_trans, lt_of_le_of_lt, max-le, mul-le-mul_right, ℕ_set, arith, lit<, length, length-append, bytes_of, number_of}
-use N.{Element, gmul, mul_from, times_x, auth_blocks, block_count, GhashBlock as block_of, blocks, blocks_from, hash_from, length_block, AtMost}
-use N.{Confuses, Pair, hashed_count, pair_hash, hash_key, mode_of, Decrypt, label_of, host_mode_call, cipher_in, LuossavinKey}
+use N.{Element, gmul, mul_from, times_x, auth_blocks, block_count, GhashBlock as block_of, blocks, blocks_from, hash_from, length_block}
+use N.{AtMost, Confuses, Pair, hashed_count, pair_hash, hash_key, mode_of, Decrypt, label_of, host_mode_call, cipher_in, LuossavinKey}
 use Rattle.roots.proofs.FewConfuse.{few_confuse, zero_confuses}
 use Rattle.roots.proofs.EveryElement.{more_have}
 use Rattle.label.proofs.LabelTells.{length_label, label-bytes, label-job, label-edition}
@@ -34,8 +34,8 @@ few_confuse_editions job₁ job₂ edition₁ edition₂ n c₁ c₂ hj₁ hj₂
     -- a label is one block
     let size₁ = length_label job₁ edition₁ in
     let size₂ = length_label job₂ edition₂ in
-    at_most (block_count n + 2) (under job₁ edition₁ c₁) (under job₂ edition₂ c₂) (search (label-bytes, arith)) (search (label-bytes, arith))
-    (omega arith) (omega arith) (λ e.
+    at_most (block_count n + 2) (under job₁ edition₁ c₁) (under job₂ edition₂ c₂) (search (label-bytes, arith))
+    (search (label-bytes, arith)) (omega arith) (omega arith) (λ e.
     let labels : label_of job₁ edition₁ ≡ label_of job₂ edition₂ = ap (λ (p : Pair). p.label) e in
     let job = label-job job₁ edition₁ job₂ edition₂ labels hj₁ hj₂ in
     let edition = label-edition job₁ edition₁ job₂ edition₂ labels he₁ he₂ in

@@ -1,15 +1,15 @@
 -- Imposters put in the place of a call: each breaks a demand or the definition, at an input that is named.
 use Rattle.demands.specs.Names as N
-use N.{false, List, [], ◌++◌, ◌∷◌, ◌≢◌, inl, ◌∙◌, ◌≡◌, ap, refl, sym, ◌+◌, ◌-◌, ◌^◌, ◌≤◌, ℕ, le_of_eq, arith, eqb, lit<, drop, get_or, length}
-use N.{length-replicate, replicate, take, eqb-false, le-ltb, AreBytes, bytes_of, number_of, U128, gmul, gpow, mul_from, one, times_x, ctr_next}
-use N.{Head, Outcome, done, keyed, reporting, chain, walk, round_keys, GhashBlock as block_of, blocks, blocks_from, hash_from, joined}
-use N.{mode_call, wrong_iv, data_check, key_and_iv, message_check, room_check, key_number, new_cipher, limit, room_of, mode_of, CipherMode, Cbc, Cfb}
-use N.{Ctr, Gcm, Ofb, Decrypt, Encrypt, Seal, any_too_long, bad_list, label_at, sum, search_check, which, plan_call, no_pieces, accepts, follows}
-use N.{range_call, range_check, reach_check, stretch, laid_at, Plan, label_of, ShelfOutcome, put_call, frontShelf as front}
-use N.{markedShelf as marked, read_up_to, records, sizeAtShelf as size_at, startsRecordShelf as starts_record, storedShelf as stored}
-use N.{writtenShelf as written, bad_shelf, fitted, has_current, not_higher, supersede, those, two_current, with_new, host_hash_blocks}
-use N.{host_hash_join, mode_in, host_mode_call, cipher_in, host_key_engine, host_key_new, key_answer_of, key_of, host_ctr_by_plan, host_ctr_range, Told}
-use N.{host_which, LuossavinKey}
+use N.{false, List, [], ◌++◌, ◌∷◌, ◌≢◌, inl, ◌∙◌, ◌≡◌, ap, refl, sym, ◌+◌, ◌-◌, ◌^◌, ◌≤◌, ℕ, le_of_eq, arith, eqb, lit<, drop, get_or}
+use N.{length, length-replicate, replicate, take, eqb-false, le-ltb, AreBytes, bytes_of, number_of, U128, gmul, gpow, mul_from, one}
+use N.{times_x, ctr_next, Head, Outcome, done, keyed, reporting, chain, walk, round_keys, GhashBlock as block_of, blocks, blocks_from}
+use N.{hash_from, joined, mode_call, wrong_iv, data_check, key_and_iv, message_check, room_check, key_number, new_cipher, limit, room_of}
+use N.{mode_of, CipherMode, Cbc, Cfb, Ctr, Gcm, Ofb, Decrypt, Encrypt, Seal, any_too_long, bad_list, label_at, sum, search_check, which}
+use N.{plan_call, no_pieces, accepts, follows, range_call, range_check, reach_check, stretch, laid_at, Plan, label_of, ShelfOutcome}
+use N.{put_call, frontShelf as front, markedShelf as marked, read_up_to, records, sizeAtShelf as size_at}
+use N.{startsRecordShelf as starts_record, storedShelf as stored, writtenShelf as written, bad_shelf, fitted, has_current, not_higher}
+use N.{supersede, those, two_current, with_new, host_hash_blocks, host_hash_join, mode_in, host_mode_call, cipher_in, host_key_engine}
+use N.{host_key_new, key_answer_of, key_of, host_ctr_by_plan, host_ctr_range, Told, host_which, LuossavinKey}
 use Rattle.block.proofs.Entries.{below-replicate}
 use Rattle.counter.proofs.Edges.{ctr-one-block, ctr_two_blocks}
 use Rattle.editions.proofs.FirstOpening.{search-number}
@@ -145,7 +145,8 @@ every-step-is-told claim =
 pub yes-refused-is-told :
     ¬ ((label d iv o : List ℕ)
     → Says (round_of Ctr Encrypt zero_key.round_keys iv (length d)) (says_it_refused zero_key label d iv o).head)
-unfolding host_mode_call mode_of mode_call message_check key_and_iv data_check room_check host_key_new key_of cipher_in key_answer_of new_cipher
+unfolding host_mode_call mode_of mode_call message_check key_and_iv data_check room_check host_key_new key_of cipher_in key_answer_of
+    new_cipher
 yes-refused-is-told claim = eqb-false 1 0 refl (rw ctr_two_blocks at ((claim [] (replicate 17 0) ones []).refused (λ e. omega arith)))
 
 -- Setting up a key without its number breaks what set-up answers, at sixteen zero bytes and the number 2: it is 1.
@@ -297,15 +298,15 @@ plan-first_contradicts k a u claim =
 -- Holding an edition against the current record alone is told by edition 1 of a job whose edition 1 is superseded and whose edition 0 is
 -- current: that is 20, and the imposter puts it in.
 pub against_current_contradicts : against_current two_editions 24 0 1 [] ≢ put_call two_editions 24 0 1 []
-unfolding put_call bad_shelf stored written label_of bytes_of has_current two_current not_higher those records read_up_to starts_record marked size_at
-    front number_of
+unfolding put_call bad_shelf stored written label_of bytes_of has_current two_current not_higher those records read_up_to starts_record
+    marked size_at front number_of
 against_current_contradicts = apart ShelfOutcome (λ x. x.number) _ _ 0 20 refl refl refl
 
 -- Marking before collecting is told by edition 2 of that job in a buffer that is full: the mark stands behind the used bytes, at byte 13,
 -- which is to be as it was.
 pub marks_first_contradicts : marks_first two_editions 24 0 2 [] ≢ put_call two_editions 24 0 2 []
-unfolding put_call bad_shelf stored written label_of bytes_of has_current two_current not_higher those supersede with_new fitted records read_up_to
-    starts_record marked size_at front number_of
+unfolding put_call bad_shelf stored written label_of bytes_of has_current two_current not_higher those supersede with_new fitted records
+    read_up_to starts_record marked size_at front number_of
 marks_first_contradicts = apart ShelfOutcome (λ x. get_or x.bytes 13 0) _ _ 0x58 0x44 refl refl refl
 
 -- Counting bytes is told under H = x by a first half of the one, which hashes to x, and two zero bytes behind it: that is x^2, and the

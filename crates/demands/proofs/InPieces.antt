@@ -2,13 +2,13 @@
 -- any text that has gone before.
 use Rattle.demands.specs.Names as N
 use N.{Bool, true, List, [], ◌++◌, ◌∷◌, append_assoc, append-nil, ◌∙◌, ◌≡◌, ap, ap₂, refl, sym, ◌+◌, ◌-◌, ◌≤◌, ℕ, arith, ltb, drop}
-use N.{drop_of_length-le, length, length-append, length-drop, drop-append-le, take_at, le-ltb, ltb-false, blocks_of, ctr_came_round, Outcome}
-use N.{done, finished, keyed, reporting, telling, under, over, chain, stream_mode, CtrKind, J0, hash_key, opens_under, sealed, text_of}
-use N.{gcm_open, gcm_round, lengths_of, mode_result, mode_call, and_then, refuse, data_check, key_and_iv, message_check, room_check}
-use N.{key_number, limit, room_of, mode_of, Ctr as CtrMode, Gcm, Direction, Decrypt, Encrypt, Sm4Cipher, Sm4CipherMode, TooLong, Checked}
-use N.{Passed, Refused, Stepped, begun, goes_on, step_on, ctr_end, ctr_piece, ctr_start, opens_end, opens_piece, opens_start, seal_end, seal_piece}
-use N.{seal_start, gcm_starting, ctr_after, opens_after, seal_after, CtrState as Ctr, Opens, Seal, host_mode_call, direction_of, host_ctr_start}
-use N.{host_opens_start, host_seal_start, cipher_in, LuossavinKey}
+use N.{drop_of_length-le, length, length-append, length-drop, drop-append-le, take_at, le-ltb, ltb-false, blocks_of, ctr_came_round}
+use N.{Outcome, done, finished, keyed, reporting, telling, under, over, chain, stream_mode, CtrKind, J0, hash_key, opens_under, sealed}
+use N.{text_of, gcm_open, gcm_round, lengths_of, mode_result, mode_call, and_then, refuse, data_check, key_and_iv, message_check}
+use N.{room_check, key_number, limit, room_of, mode_of, Ctr as CtrMode, Gcm, Direction, Decrypt, Encrypt, Sm4Cipher, Sm4CipherMode, TooLong}
+use N.{Checked, Passed, Refused, Stepped, begun, goes_on, step_on, ctr_end, ctr_piece, ctr_start, opens_end, opens_piece, opens_start}
+use N.{seal_end, seal_piece, seal_start, gcm_starting, ctr_after, opens_after, seal_after, CtrState as Ctr, Opens, Seal, host_mode_call}
+use N.{direction_of, host_ctr_start, host_opens_start, host_seal_start, cipher_in, LuossavinKey}
 use Rattle.block.proofs.Same.{by_test}
 use Rattle.stream.proofs.RoundTrip.{length-stream}
 use Rattle.gcm.proofs.Parts.{length-text, length-tag}

@@ -1,8 +1,8 @@
 -- The replay of a journal, as a host is told of it: demand 1, which number it ends with; two journals joined; and that calls which were
 -- recorded as they were answered agree.
 use Rattle.demands.specs.Names as N
-use N.{false, true, List, [], ◌++◌, ◌∷◌, append-nil, inl, inr, ⊎_elim, ◌∙◌, ◌≡◌, ap, refl, sym, ◌<◌, ℕ, get_or, take-append_seam, ◌-◌, arith}
-use N.{ltb, length, take, lt-ltb, AreBytes, Sm4Cipher, AllReplayable, Ends, NoneDiffers, Totals, counted_all, differs, Entry}
+use N.{false, true, List, [], ◌++◌, ◌∷◌, append-nil, inl, inr, ⊎_elim, ◌∙◌, ◌≡◌, ap, refl, sym, ◌<◌, ℕ, get_or, take-append_seam, ◌-◌}
+use N.{arith, ltb, length, take, lt-ltb, AreBytes, Sm4Cipher, AllReplayable, Ends, NoneDiffers, Totals, counted_all, differs, Entry}
 use N.{storedJournal as stored, writtenJournal as written, added, behind_report, bad_keys, keyOfJournal as key_of, keys_in, answered_by}
 use N.{call_into, recomputed, result_of as result, doneJournal as done, number_of_end, replay, nothing, write, JournalEnd as Ended, BadKeys}
 use N.{BadRecord, DoneJournal as Done, TooLongJournal as TooLong, UnknownKey, Replayed, Keys, DoneWrote, NoRoomWrote as NoRoom}
@@ -24,7 +24,11 @@ abbrev end_back : ℕ → Ended
 end_back n = get_or (Done ∷ BadRecord ∷ TooLong ∷ UnknownKey ∷ BadKeys ∷ []) (n - 22) Done
 
 end_of : (e : Ended) → end_back (number_of_end e) ≡ e
-end_of e = elim e [ Done ↦ refl | BadRecord ↦ refl | TooLong ↦ refl | UnknownKey ↦ refl | BadKeys ↦ refl ]
+end_of Done = refl
+end_of BadRecord = refl
+end_of TooLong = refl
+end_of UnknownKey = refl
+end_of BadKeys = refl
 
 module _ (k : LuossavinKeys) (journal : List ℕ) (small : AreBytes journal) where
   pub exported_replay-ends : ReplayEnds k journal (replay (keys_of k) journal)
@@ -151,10 +155,16 @@ exported_joined k a b whole = rw (joined (keys_of k) a b whole) (behind-added (l
 
 -- Demand 1.
 known-end : (e : Ended) → one_of (number_of_end e) (0 ∷ 23 ∷ 24 ∷ 25 ∷ 26 ∷ []) ≡ true
-known-end e = elim e [ Done ↦ refl | BadRecord ↦ refl | TooLong ↦ refl | UnknownKey ↦ refl | BadKeys ↦ refl ]
+known-end Done = refl
+known-end BadRecord = refl
+known-end TooLong = refl
+known-end UnknownKey = refl
+known-end BadKeys = refl
 
 -- a record that is refused is so as 23, 24 or 25
 stopped : (ks : List Sm4Cipher) (b : List ℕ) (e : Ended) → Refuses ks b e → (number_of_end e ≡ 0 → ⊥) × (number_of_end e < 26)
+stopped ks b Done w = elim w [ ]
+stopped ks b BadKeys w = elim w [ ]
 stopped ks b BadRecord w = (λ z. omega arith, omega arith)
 stopped ks b TooLong w = (λ z. omega arith, omega arith)
 stopped ks b UnknownKey w = (λ z. omega arith, omega arith)

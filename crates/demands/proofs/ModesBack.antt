@@ -1,9 +1,10 @@
 -- In each mode, what encrypting gave is in order for decrypting and decrypts to the message, and the other way about.
 use Rattle.demands.specs.Names as N
-use N.{Kind, not, inl, inr, ◌⊎◌, ⊎_elim, ◌-◌, ◌<◌, all_padding, last_byte, names_padding, limit_of, refused, false, true, List, ◌∙◌, ◌≡◌, refl}
-use N.{◌%◌, ◌≤◌, ℕ, arith, length, take, length-take-le, eq-eqb, le-ltb, ne_eqb, AreBytes, done, reporting, chain, stream_mode, CfbDecrypt}
-use N.{CfbEncrypt, CtrKind, OfbKind, cbc_seal, cbc_open, cbc_text, unpadded, J0, hash_key, opens_under, sealed, text_of, text_part, gcm_open}
-use N.{mode_result, data_check, wrong_iv, limit, room_of, sealed_limit, CipherMode, Cbc, Cfb, Ctr, Gcm, Ofb, Decrypt, Encrypt, Passed}
+use N.{Kind, not, inl, inr, ◌⊎◌, ⊎_elim, ◌-◌, ◌<◌, all_padding, last_byte, names_padding, limit_of, refused, false, true, List, ◌∙◌, ◌≡◌}
+use N.{refl, ◌%◌, ◌≤◌, ℕ, arith, length, take, length-take-le, eq-eqb, le-ltb, ne_eqb, AreBytes, done, reporting, chain, stream_mode}
+use N.{CfbDecrypt, CfbEncrypt, CtrKind, OfbKind, cbc_seal, cbc_open, cbc_text, unpadded, J0, hash_key, opens_under, sealed, text_of}
+use N.{text_part, gcm_open, mode_result, data_check, wrong_iv, limit, room_of, sealed_limit, CipherMode, Cbc, Cfb, Ctr, Gcm, Ofb, Decrypt}
+use N.{Encrypt, Passed}
 use Rattle.block.proofs.Same.{by_test}
 use Rattle.stream.proofs.RoundTrip.{length-stream, stream_back, stream_forth}
 use Rattle.cbc.proofs.RoundTrip.{length-cbc_seal}
@@ -28,7 +29,11 @@ encrypted Gcm rk aad d iv = sealed rk (hash_key rk) (J0 rk iv) aad d
 
 pub encrypts : (m : CipherMode) (rk aad d iv o : List ℕ)
     → mode_result m Encrypt rk aad d iv o ≡ reporting (round_of m Encrypt rk iv (length d)) (done (encrypted m rk aad d iv) o)
-encrypts m rk aad d iv o = elim m [ Cfb ↦ refl | Ofb ↦ refl | Ctr ↦ refl | Cbc ↦ refl | Gcm ↦ refl ]
+encrypts Cfb rk aad d iv o = refl
+encrypts Ofb rk aad d iv o = refl
+encrypts Ctr rk aad d iv o = refl
+encrypts Cbc rk aad d iv o = refl
+encrypts Gcm rk aad d iv o = refl
 
 pub length_encrypted : (m : CipherMode) (rk aad d iv : List ℕ) → length (encrypted m rk aad d iv) ≡ room_of m Encrypt (length d)
 length_encrypted Cfb rk aad d iv = length-stream CfbEncrypt rk iv d
@@ -129,7 +134,11 @@ module _ (rk aad c iv o : List ℕ) where
   -- such a text may be encrypted, in Cbc if it is no longer than that allows
   within : (m : CipherMode) → length c ≤ limit_of Decrypt m → (m ≡ Cbc → length_of m Decrypt rk iv c ≤ limit)
       → length_of m Decrypt rk iv c ≤ limit
-  within m = elim m [ Cfb ↦ λ h _. h | Ofb ↦ λ h _. h | Ctr ↦ λ h _. h | Cbc ↦ λ _ l. l refl | Gcm ↦ λ h _. omega arith ]
+  within Cfb h _ = h
+  within Ofb h _ = h
+  within Ctr h _ = h
+  within Cbc _ l = l refl
+  within Gcm h _ = omega arith
 
   pub forth : (m : CipherMode) → wrong_iv m (length iv) ≡ false → data_check Decrypt m (length c) ≡ Passed
       → (mode_result m Decrypt rk aad c iv o).head.number ≡ 0 → (m ≡ Cbc → (mode_result m Decrypt rk aad c iv o).head.size ≤ limit)

@@ -1,9 +1,9 @@
 -- Demand 3: one changed block, of the ciphertext or of the label, is refused; and what follows, of editions and of trailing zeros.
 use Rattle.demands.specs.Names as N
 use N.{false, true, List, [], ◌++◌, ◌∷◌, ◌≢◌, ⊎_elim, ◌∙◌, ◌≡◌, ap, refl, sym, ◌-◌, ◌≤◌, ℕ, arith, drop_of_length-le, length, length-append}
-use N.{length-drop, replicate, take-append-drop, length-take-le, le-ltb, AreBytes, encrypt_block, ghash, auth_blocks, OneBlock, J0, tag_part}
-use N.{text_part, hash_key, opens_under, gcm_open, lengths_of, mode_call, wrong_iv, limit, sealed_limit, mode_of, Gcm, Decrypt, Key}
-use N.{Sm4Cipher, label_of, host_mode_call, cipher_in, LuossavinKey}
+use N.{length-drop, replicate, take-append-drop, length-take-le, le-ltb, AreBytes, encrypt_block, ghash, auth_blocks, OneBlock, J0}
+use N.{tag_part, text_part, hash_key, opens_under, gcm_open, lengths_of, mode_call, wrong_iv, limit, sealed_limit, mode_of, Gcm, Decrypt}
+use N.{Key, Sm4Cipher, label_of, host_mode_call, cipher_in, LuossavinKey}
 use Rattle.ghash.proofs.Changed.{label_changed, text_changed, label-zero, text-zero}
 use Rattle.gcm.proofs.HashKey.{hash_key-lt, hash_key_tells, hash_key-zero}
 use Rattle.demands.specs.Call.{in_gcm, RefusedAs}

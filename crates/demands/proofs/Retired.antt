@@ -2,10 +2,10 @@
 use Rattle.demands.specs.Names as N
 use N.{◌+◌, CipherMode, Checked, and_then, Bool, true, List, [], ◌++◌, ◌∷◌, map, ◌≢◌, ◌≡◌, refl, subst, sym, suc, zero, ℕ, arith, eqb, ltb}
 use N.{length, take, eq-eqb, eqb-false, eqb-true, ne_eqb, block_call, mode_call, block_check, key_and_iv, message_check, retired_check}
-use N.{Ctr as CtrMode, Gcm, Encrypt, Sm4Cipher, Passed, ctr_start, opens_start, seal_start, gcm_starting, CtrState as Ctr, Seal, search_check}
-use N.{which, plan_call, range_call, range_check, reach_check, any_retired, bad_keys, replay, host_block_call, host_mode_call, host_ctr_start}
-use N.{host_opens_start, host_seal_start, host_replay, keys_of, cipher_in, host_key_engine, host_key_retire, key_answer_of, host_ctr_by_plan, host_ctr_range}
-use N.{host_which, LuossavinKey}
+use N.{Ctr as CtrMode, Gcm, Encrypt, Sm4Cipher, Passed, ctr_start, opens_start, seal_start, gcm_starting, CtrState as Ctr, Seal}
+use N.{search_check, which, plan_call, range_call, range_check, reach_check, any_retired, bad_keys, replay, host_block_call, host_mode_call}
+use N.{host_ctr_start, host_opens_start, host_seal_start, host_replay, keys_of, cipher_in, host_key_engine, host_key_retire, key_answer_of}
+use N.{host_ctr_by_plan, host_ctr_range, host_which, LuossavinKey}
 use Rattle.block.proofs.Same.{by_test}
 use Rattle.cipher_mode.proofs.Passed.{both, key-and-iv_passed}
 use Rattle.demands.specs.Retired.{StaysRetired, DecryptsAlike, EncryptsNothing}
@@ -50,8 +50,9 @@ engine_stays-retired e k r = r
 
 -- Decryption does not look at the mark.
 alike : (k : LuossavinKey) → k.answer ≡ 0 → DecryptsAlike k (retired_of k)
-unfolding cipher_in key_answer_of host_block_call block_call block_check host_mode_call mode_call message_check key_and_iv host_ctr_start ctr_start
-    host_opens_start opens_start gcm_starting host_which which search_check host_ctr_range range_call range_check reach_check host_ctr_by_plan plan_call
+unfolding cipher_in key_answer_of host_block_call block_call block_check host_mode_call mode_call message_check key_and_iv host_ctr_start
+    ctr_start host_opens_start opens_start gcm_starting host_which which search_check host_ctr_range range_call range_check reach_check
+    host_ctr_by_plan plan_call
 alike k e = subst (λ (a : ℕ). DecryptsAlike k (marked_with a k)) e (search)
 
 pub retired_decrypts_alike : (k : LuossavinKey) → DecryptsAlike k (host_key_retire k)
@@ -82,8 +83,8 @@ among [] k after r = rw r
 among (j ∷ before) k after r = rw (among before k after r) (or-true (cipher_in j).retired)
 
 pub retired_encrypts_nothing : (k : LuossavinKey) → k.retired ≢ 0 → EncryptsNothing k
-unfolding cipher_in host_block_call host_ctr_start ctr_start host_seal_start seal_start gcm_starting host_ctr_range range_call range_check host_ctr_by_plan
-    plan_call reach_check host_replay replay keys_of bad_keys
+unfolding cipher_in host_block_call host_ctr_start ctr_start host_seal_start seal_start gcm_starting host_ctr_range range_call range_check
+    host_ctr_by_plan plan_call reach_check host_replay replay keys_of bad_keys
 retired_encrypts_nothing k n =
     let c = cipher_in k in
     let r : (cipher_in k).retired ≡ true = rw (ne_eqb k.retired 0 n) in

@@ -3,10 +3,10 @@
 use Rattle.demands.specs.Names as N
 use N.{Bool, not, true, List, [], ◌++◌, ◌∷◌, ◌≢◌, ◌⊎◌, ⊎_elim, ◌∙◌, ◌≡◌, refl, ◌%◌, ◌-◌, ℕ, arith, eqb, length, eqb-true, ne_eqb, same}
 use N.{xors, finished, refusal, refusal_head, key_and_iv, key_number, Ctr as CtrMode, Decrypt, Encrypt, Refusal, Ended, ErrorBlockSize}
-use N.{Retired, TooLong, WrongIv, WrongNumber, Checked, Passed, Refused, Stepped, begun, ended, goes_on, step_on, ctr_end, ctr_piece, ctr_start}
-use N.{opens_end, opens_piece, opens_start, seal_end, seal_piece, seal_start, gcm_starting, running, standing, tagged, writing, flow_text, hash_end}
-use N.{ctr_after, ctr_shut, opens_after, opens_shut, seal_after, seal_shut, CtrState as Ctr, CtrCounting, GcmCounting, Opens, Seal}
-use N.{direction_of, host_ctr_start, host_opens_start, host_seal_start, cipher_in, LuossavinKey}
+use N.{Retired, TooLong, WrongIv, WrongNumber, Checked, Passed, Refused, Stepped, begun, ended, goes_on, step_on, ctr_end, ctr_piece}
+use N.{ctr_start, opens_end, opens_piece, opens_start, seal_end, seal_piece, seal_start, gcm_starting, running, standing, tagged, writing}
+use N.{flow_text, hash_end, ctr_after, ctr_shut, opens_after, opens_shut, seal_after, seal_shut, CtrState as Ctr, CtrCounting, GcmCounting}
+use N.{Opens, Seal, direction_of, host_ctr_start, host_opens_start, host_seal_start, cipher_in, LuossavinKey}
 use Rattle.block.proofs.Convert.{length-bytes_of}
 use Rattle.block.proofs.Xors.{length-xors}
 use Rattle.block.proofs.Same.{by_test}

@@ -1,9 +1,9 @@
 -- Demand 2, there and back: what a call did, its counterpart takes back; and whoever asks in order is served.
 use Rattle.demands.specs.Names as N
 use N.{AreBytes, Sm4Cipher, false, List, ◌⊎◌, ⊎_elim, ◌∙◌, ◌≡◌, ap, refl, sym, ◌≤◌, ℕ, length, le-ltb, Head, done, keyed, reporting}
-use N.{block_call, block_of, mode_result, data_check, label_check, retired_check, wrong_iv, key_number, limit, mode_of, room_of, CipherMode, Cbc, Cfb}
-use N.{Ctr, Gcm, Ofb, Direction, Decrypt, Encrypt, Passed, host_block_call, host_mode_call, cipher_in, host_key_engine, host_key_new, host_key_retire}
-use N.{key_answer_of, key_of, LuossavinKey, lengths_of}
+use N.{block_call, block_of, mode_result, data_check, label_check, retired_check, wrong_iv, key_number, limit, mode_of, room_of, CipherMode}
+use N.{Cbc, Cfb, Ctr, Gcm, Ofb, Direction, Decrypt, Encrypt, Passed, host_block_call, host_mode_call, cipher_in, host_key_engine}
+use N.{host_key_new, host_key_retire, key_answer_of, key_of, LuossavinKey, lengths_of}
 use Rattle.cipher.proofs.Blocks.{block-decrypt-encrypt, block-encrypt-decrypt}
 use Rattle.cipher_mode.proofs.Ends.{length-block}
 use Rattle.cipher_mode.proofs.Passed.{InOrder}
@@ -25,7 +25,8 @@ host_encrypts mode k label d iv o p =
 -- who may work in a direction
 allowed : (dir : Direction) (k : LuossavinKey) → (dir ≡ Encrypt → k.retired ≡ 0) → retired_check dir (cipher_in k).retired ≡ Passed
 unfolding cipher_in
-allowed dir k = elim dir [ Encrypt ↦ λ u. rw (u refl) | Decrypt ↦ λ _. refl ]
+allowed Encrypt k u = rw (u refl)
+allowed Decrypt k _ = refl
 
 -- a block that was worked in one direction, worked in the other under the same key
 block_takes_back : (there back : Direction) (c l : Sm4Cipher) → l.answer ≡ c.answer → l.rk ≡ c.rk
@@ -111,12 +112,22 @@ set-up-same-key key n m size n₁ n₂ m₁ m₂ =
 -- Whoever asks in order is served.
 
 label_in_order : (m : CipherMode) (n : ℕ) → (m ≡ Gcm → n ≤ limit) → label_check m n ≡ Passed
-label_in_order m n =
-    elim m [ Cfb ↦ λ _. refl | Ofb ↦ λ _. refl | Ctr ↦ λ _. refl | Cbc ↦ λ _. refl | Gcm ↦ λ h. rw (le-ltb limit n (h refl)) ]
+label_in_order Cfb n _ = refl
+label_in_order Ofb n _ = refl
+label_in_order Ctr n _ = refl
+label_in_order Cbc n _ = refl
+label_in_order Gcm n h = rw (le-ltb limit n (h refl))
+
+sixteen_in_order : (m : CipherMode) → wrong_iv m 16 ≡ false
+sixteen_in_order Cfb = refl
+sixteen_in_order Ofb = refl
+sixteen_in_order Ctr = refl
+sixteen_in_order Cbc = refl
+sixteen_in_order Gcm = refl
 
 iv_in_order : (m : CipherMode) (n : ℕ) → (n ≡ 16) ⊎ ((m ≡ Gcm) × (n ≡ 12)) → wrong_iv m n ≡ false
 iv_in_order m n s =
-    ⊎_elim (λ e. rw e (elim m [ Cfb ↦ refl | Ofb ↦ refl | Ctr ↦ refl | Cbc ↦ refl | Gcm ↦ refl ])) (λ (e, f). rw (e, f)) s
+    ⊎_elim (λ e. rw e (sixteen_in_order m)) (λ (e, f). rw (e, f)) s
 
 -- With a usable and unretired key, in every mode: encryption that is asked for in order is done with the table's length, and so is
 -- decryption of what it gave, under any record of the key, with the message's.

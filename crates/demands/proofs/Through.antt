@@ -1,9 +1,10 @@
 -- What a call that answered 0 had in order, what a call leaves that has all in order, and how a record crosses the boundary.
 use Rattle.demands.specs.Names as N
-use N.{false, List, ◌≡◌, refl, ℕ, arith, eqb, ltb, length, take-append_seam, eq-eqb, le-ltb, Outcome, done, keyed, block_call}
-use N.{block_of, lengths_of, mode_call, mode_result, block_check, checked, key_and_iv, message_check, room_check, key_head, key_number, new_cipher}
+use N.{false, List, ◌≡◌, refl, ℕ, arith, eqb, ltb, length, take-append_seam, eq-eqb, le-ltb, Outcome, done, keyed, block_call, block_of}
+use N.{lengths_of, mode_call, mode_result, block_check, checked, key_and_iv, message_check, room_check, key_head, key_number, new_cipher}
 use N.{retire, mode_of, room_of, Direction, KeyAnswer, NoKey as ErrorBlockSize, Key, NoNumber as WrongNumber, Sm4Cipher, Sm4CipherMode}
-use N.{Checked, Passed, Refused, begun, host_mode_call, mode_in, cipher_in, host_key_new, host_key_retire, key_answer_of, key_of, LuossavinKey}
+use N.{Checked, Passed, Refused, begun, host_mode_call, mode_in, cipher_in, host_key_new, host_key_retire, key_answer_of, key_of}
+use N.{LuossavinKey}
 use Rattle.block.proofs.Same.{by_test}
 use Rattle.cipher_mode.proofs.Passed.{InOrder, BlockInOrder, message_passed, block_passed}
 use Rattle.cipher_mode.proofs.Refusals.{refuses}
@@ -14,11 +15,13 @@ pub result-of-done : (p o : List ℕ) → result (done p o) ≡ p
 result-of-done p o = take-append_seam p _
 
 pub zero_passed : (k : Checked) (o : List ℕ) (next : Outcome) → (checked k o next).head.number ≡ 0 → k ≡ Passed
-zero_passed k o next = elim k [ Passed ↦ λ _. refl | Refused r ↦ λ e. absurd ((refuses r).not-zero e) ]
+zero_passed Passed o next _ = refl
+zero_passed (Refused r) o next e = absurd ((refuses r).not-zero e)
 
 -- a start that answers 0 has passed
 pub passed_start : (S : Type 0) (k : Checked) (shut : ℕ → S) (s : S) → (begun S k shut s).head.number ≡ 0 → k ≡ Passed
-passed_start S k shut s = elim k [ Passed ↦ λ _. refl | Refused r ↦ λ e. absurd ((refuses r).not-zero e) ]
+passed_start S Passed shut s _ = refl
+passed_start S (Refused r) shut s e = absurd ((refuses r).not-zero e)
 
 -- a single block
 module _ (dir : Direction) (c : Sm4Cipher) (b o : List ℕ) where
@@ -64,7 +67,9 @@ module _ (dir : Direction) (mode : ℕ) (k : LuossavinKey) (aad d iv o : List �
 
 answer_back : (a : KeyAnswer) → key_answer_of (key_head a).number ≡ a
 unfolding key_answer_of
-answer_back a = elim a [ Key ↦ refl | ErrorBlockSize ↦ refl | WrongNumber ↦ refl ]
+answer_back Key = refl
+answer_back ErrorBlockSize = refl
+answer_back WrongNumber = refl
 
 -- a record that was handed out comes back as it was
 pub handed_back : (c : Sm4Cipher) → cipher_in (key_of c) ≡ c

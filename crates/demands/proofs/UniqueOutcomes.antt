@@ -2,13 +2,13 @@
 -- that a public call's contract has, whatever the definition in it gives.
 use Rattle.demands.specs.Names as N
 use N.{Bool, cond, not, List, [], ◌∷◌, ◌∙◌, ◌≡◌, ap, refl, sym, ◌-◌, ℕ, eqb, get_or, Head, Outcome, ending_head, head_of, outcome, Answer}
-use N.{Ending, Done, RefusedEnding as Refused, Stepped, ctr_stepped, opens_stepped, seal_stepped, CtrState as Ctr, CtrStep, Opens, OpensStep}
-use N.{Seal, SealStep, Verdict, askedHead, is_found, verdict_of, Asked, BadList, Candidate, None, RefusedAsked, Found, planHead}
+use N.{Ending, Done, RefusedEnding as Refused, Stepped, ctr_stepped, opens_stepped, seal_stepped, CtrState as Ctr, CtrStep, Opens}
+use N.{OpensStep, Seal, SealStep, Verdict, askedHead, is_found, verdict_of, Asked, BadList, Candidate, None, RefusedAsked, Found, planHead}
 use N.{plannedOutcome, ByPlan, PlannedEnd, DonePlan, NotAccepted, RefusedPlan, ShelfOutcome, Place, shelfNumber as number_of_end}
 use N.{outcome_of, place_in, ShelfEnd, BadShelf, DoneShelf, NoCurrent, NoRoomShelf, NotHigher, ShelfFound, Kept, Leaves, Wrote, head_in}
-use N.{reported, ctr_reported, opens_reported, seal_reported, Handed, planned_reported, shelf_reported, shelved_reported, Told, found_reported}
-use N.{LuossavinAnswer, LuossavinLabel, LuossavinCtrStep, LuossavinOpensStep, LuossavinSealStep, LuossavinShelf, LuossavinShelved}
-use N.{LuossavinFound, LuossavinPlanned}
+use N.{reported, ctr_reported, opens_reported, seal_reported, Handed, planned_reported, shelf_reported, shelved_reported, Told}
+use N.{found_reported, LuossavinAnswer, LuossavinLabel, LuossavinCtrStep, LuossavinOpensStep, LuossavinSealStep, LuossavinShelf}
+use N.{LuossavinShelved, LuossavinFound, LuossavinPlanned}
 use Rattle.demands.proofs.Answering.{told_by, told_back, mark_back}
 use Rattle.demands.specs.OneOutcome.{One, OneValue}
 
@@ -27,7 +27,8 @@ abbrev answer_of : Head → Answer
 answer_of h = record { ending = told_by Ending Done Refused (Done 0) h; came_round = not (eqb h.came_round 0); key = h.key }
 
 ending_told : (e : Ending) → told_by Ending Done Refused (Done 0) (ending_head e) ≡ e
-ending_told e = elim e [ Done n ↦ refl | Refused r ↦ (told_back Ending Done Refused (Done 0) r).0 ]
+ending_told (Done n) = refl
+ending_told (Refused r) = (told_back Ending Done Refused (Done 0) r).0
 
 answer-told : (a : Answer) → answer_of (head_of a) ≡ a
 answer-told a = rw (ending_told a.ending, mark_back a.came_round)
@@ -78,8 +79,10 @@ abbrev asked_of : Head → Bool → Asked
 asked_of h found = cond found Candidate (told_by Asked (λ _. None) RefusedAsked BadList h)
 
 asked_told : (e : Asked) → asked_of (askedHead e) (is_found e) ≡ e
-asked_told e =
-    elim e [ Candidate ↦ refl | None ↦ refl | BadList ↦ refl | RefusedAsked r ↦ (told_back Asked (λ _. None) RefusedAsked BadList r).0 ]
+asked_told Candidate = refl
+asked_told None = refl
+asked_told BadList = refl
+asked_told (RefusedAsked r) = (told_back Asked (λ _. None) RefusedAsked BadList r).0
 
 pub unique_which : (x : Verdict) → OneValue Found Verdict verdict_of x
 unique_which =
@@ -94,8 +97,9 @@ unique_exported_which =
 
 -- Plans.
 planned-told : (e : PlannedEnd) → told_by PlannedEnd DonePlan RefusedPlan NotAccepted (planHead e) ≡ e
-planned-told e =
-    elim e [ DonePlan n ↦ refl | NotAccepted ↦ refl | RefusedPlan r ↦ (told_back PlannedEnd DonePlan RefusedPlan NotAccepted r).0 ]
+planned-told (DonePlan n) = refl
+planned-told NotAccepted = refl
+planned-told (RefusedPlan r) = (told_back PlannedEnd DonePlan RefusedPlan NotAccepted r).0
 
 pub unique_by_plan : (x : Outcome) → One ByPlan Outcome plannedOutcome x
 unique_by_plan =
@@ -110,7 +114,11 @@ abbrev shelf_end : ℕ → ShelfEnd
 shelf_end n = get_or (DoneShelf ∷ BadShelf ∷ NotHigher ∷ NoRoomShelf ∷ NoCurrent ∷ []) (n - 18) DoneShelf
 
 shelf_told : (e : ShelfEnd) → shelf_end (number_of_end e) ≡ e
-shelf_told e = elim e [ DoneShelf ↦ refl | BadShelf ↦ refl | NotHigher ↦ refl | NoRoomShelf ↦ refl | NoCurrent ↦ refl ]
+shelf_told DoneShelf = refl
+shelf_told BadShelf = refl
+shelf_told NotHigher = refl
+shelf_told NoRoomShelf = refl
+shelf_told NoCurrent = refl
 
 pub unique_kept : (x : ShelfOutcome) → One Kept ShelfOutcome outcome_of x
 unique_kept = one (λ y. (record { ended = shelf_end y.number; used = y.used }, y.bytes)) (λ k o. rw shelf_told)

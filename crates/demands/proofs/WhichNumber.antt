@@ -1,12 +1,12 @@
 -- Which number an exported call answers: that of the first of the conditions of docs/REQUIREMENTS.md that holds, and no other.
 use Rattle.demands.specs.Names as N
-use N.{Bool, ◌&&◌, cond, false, not, true, List, [], ◌∷◌, inl, inr, ⊎_elim, ◌≡◌, refl, ℕ, eqb, length, eqb-true, Head, Outcome, finished}
-use N.{refusal, refuseAs, telling, cbc_open, cbc_head, unpadded, CbcDone, InvalidLastU8, InvalidPadding, gcm_open, refusal_head, block_call}
-use N.{lengths_of, mode_call, mode_result, and_then, block_check, checked, data_check, key_and_iv, key_check, message_check, refuse, room_check}
-use N.{new_cipher, wrong_number, CipherMode, Cbc, Cfb, Ctr, Gcm, Ofb, Direction, Decrypt, Encrypt, Refusal, Checked, Passed, Refused, ctr_end}
-use N.{ctr_piece, ctr_start, opens_end, opens_piece, opens_start, seal_end, seal_piece, seal_start, gcm_starting, running, standing, tagged, writing}
-use N.{CtrState, Opens, Seal, search_check, which, host_block_call, host_mode_call, host_ctr_start, host_opens_start, host_seal_start, cipher_in}
-use N.{host_key_new, key_answer_of, key_of, host_which, LuossavinKey}
+use N.{Bool, ◌&&◌, cond, false, not, true, List, [], ◌∷◌, inl, inr, ⊎_elim, ◌≡◌, refl, subst, sym, ℕ, eqb, length, eqb-true, Head, Outcome}
+use N.{finished, refusal, refuseAs, telling, cbc_open, cbc_head, unpadded, CbcDone, InvalidLastU8, InvalidPadding, gcm_open, refusal_head}
+use N.{block_call, lengths_of, mode_call, mode_result, and_then, block_check, checked, data_check, key_and_iv, key_check, message_check}
+use N.{refuse, room_check, new_cipher, wrong_number, CipherMode, Cbc, Cfb, Ctr, Gcm, Ofb, Direction, Decrypt, Encrypt, Refusal, Checked}
+use N.{Passed, Refused, ctr_end, ctr_piece, ctr_start, opens_end, opens_piece, opens_start, seal_end, seal_piece, seal_start, gcm_starting}
+use N.{running, standing, tagged, writing, CtrState, Opens, Seal, search_check, which, host_block_call, host_mode_call, host_ctr_start}
+use N.{host_opens_start, host_seal_start, cipher_in, host_key_new, key_answer_of, key_of, host_which, LuossavinKey}
 use Rattle.block.proofs.Same.{by_test}
 use Rattle.editions.proofs.FirstOpening.{search-number}
 use Rattle.demands.specs.WhichNumber.{Said, said_in, only, Row, Among, is_retired, encrypt_rows_in, decrypt_rows_in, first_of, numbers_of}
@@ -21,11 +21,14 @@ abbrev pub behind : Checked → Said → Said
 behind Passed s = s
 behind (Refused r) s = said_in (refusal_head r)
 
-pub said-refuse : (t : Bool) (r : Refusal) (k : Checked) (s : Said) → behind (refuse t r k) s ≡ cond t (said_in (refusal_head r)) (behind k s)
-said-refuse t r k s = elim t [ true ↦ refl | false ↦ refl ]
+pub said-refuse : (t : Bool) (r : Refusal) (k : Checked) (s : Said)
+    → behind (refuse t r k) s ≡ cond t (said_in (refusal_head r)) (behind k s)
+said-refuse true r k s = refl
+said-refuse false r k s = refl
 
 pub said_then : (a b : Checked) (s : Said) → behind (and_then a b) s ≡ behind a (behind b s)
-said_then a b s = elim a [ Passed ↦ refl | Refused r ↦ refl ]
+said_then Passed b s = refl
+said_then (Refused r) b s = refl
 
 -- a record's answer that is no key
 pub said-key : (n : ℕ) (s : Said)
@@ -37,10 +40,12 @@ said-key n s =
 -- a report that was behind a check, or behind a test
 pub said-head : (k : Checked) (h : Head) → said_in (head_behind k h) ≡ behind k (said_in h)
 unfolding head_behind
-said-head k h = elim k [ Passed ↦ refl | Refused r ↦ refl ]
+said-head Passed h = refl
+said-head (Refused r) h = refl
 
 pub said_cond : (t : Bool) (g h : Head) → said_in (cond t g h) ≡ cond t (said_in g) (said_in h)
-said_cond t g h = elim t [ true ↦ refl | false ↦ refl ]
+said_cond true g h = refl
+said_cond false g h = refl
 
 -- so a chain of checks is read as a list of rows
 pub ruleset said_laws = (said-refuse, said_then, said-key, heads, said-head, said_cond)
@@ -52,7 +57,8 @@ checked-said k o next s e = simp (heads, said-head) e
 
 pub front-said : (t : Bool) (k : ℕ) (o : List ℕ) (x : Outcome) (s : Said) → said_in x.head ≡ s
     → said_in (refuseAs t k o x).head ≡ cond t (only k) s
-front-said t k o x s e = elim t [ true ↦ refl | false ↦ e ]
+front-said true k o x s e = refl
+front-said false k o x s e = e
 
 -- Setting up a key says what the first condition says that holds: the key's size, its number.
 pub exported_new-number : (key : List ℕ) (n : ℕ) → (host_key_new key n).answer ≡ (first_of (new_rows key n)).number
@@ -65,15 +71,19 @@ exported_new-number key n =
 pub exported_block-number : (dir : Direction) (k : LuossavinKey) (b o : List ℕ)
     → said_in (host_block_call dir k b o).head ≡ first_of (block_rows dir k b o)
 unfolding host_block_call block_call block_check cipher_in
-exported_block-number dir k b o = elim dir [ Encrypt ↦ simp said_laws | Decrypt ↦ simp said_laws ]
+exported_block-number Encrypt k b o = simp said_laws
+exported_block-number Decrypt k b o = simp said_laws
 
 -- opening, by the tests that decide
 cbc_said : (n : ℕ) (none bad : Bool)
     → said_in (cbc_head (cond none InvalidLastU8 (cond bad InvalidPadding (CbcDone n)))) ≡ cond none (only 3) (cond bad (only 15) (only 0))
-cbc_said n none bad = elim none [ true ↦ refl | false ↦ elim bad [ true ↦ refl | false ↦ refl ] ]
+cbc_said n true bad = refl
+cbc_said n false true = refl
+cbc_said n false false = refl
 
 gcm-said : (t : Bool) → cond t (only 0) (only 4) ≡ cond (not t) (only 4) (only 0)
-gcm-said t = elim t [ true ↦ refl | false ↦ refl ]
+gcm-said true = refl
+gcm-said false = refl
 
 -- the lengths of an IV that Gcm takes, the other way round
 iv-said : (n : ℕ) → not (eqb n 12) && not (eqb n 16) ≡ not (eqb n 16) && not (eqb n 12)
@@ -87,15 +97,21 @@ module _ (k : LuossavinKey) (label d iv o : List ℕ) where
 
   encryption_said : (m : CipherMode) → behind (check Encrypt m) (only 0) ≡ first_of (encrypt_rows_in m k label d iv o)
   unfolding message_check key_and_iv data_check room_check
-  encryption_said m =
-      elim m [ Cfb ↦ simp mode_laws | Ofb ↦ simp mode_laws | Ctr ↦ simp mode_laws | Cbc ↦ simp mode_laws | Gcm ↦ simp mode_laws ]
+  encryption_said Cfb = simp mode_laws
+  encryption_said Ofb = simp mode_laws
+  encryption_said Ctr = simp mode_laws
+  encryption_said Cbc = simp mode_laws
+  encryption_said Gcm = simp mode_laws
 
   decryption_said : (m : CipherMode)
       → behind (check Decrypt m) (said_in (mode_result m Decrypt k.round_keys label d iv o).head)
       ≡ first_of (decrypt_rows_in m k label d iv o)
   unfolding message_check key_and_iv data_check room_check cbc_open unpadded gcm_open
-  decryption_said m =
-      elim m [ Cfb ↦ simp mode_laws | Ofb ↦ simp mode_laws | Ctr ↦ simp mode_laws | Cbc ↦ simp mode_laws | Gcm ↦ simp mode_laws ]
+  decryption_said Cfb = simp mode_laws
+  decryption_said Ofb = simp mode_laws
+  decryption_said Ctr = simp mode_laws
+  decryption_said Cbc = simp mode_laws
+  decryption_said Gcm = simp mode_laws
 
 -- The exported encryption says what the first condition says that holds: mode, key, IV, whether the key is retired, label, data, room.
 pub exported_encryption_number : (mode : ℕ) (k : LuossavinKey) (label d iv o : List ℕ)
@@ -118,16 +134,21 @@ exported_which-number k file iv labels lengths = simp (said_laws, search-number)
 
 -- So a call answers 0 or a number of its rows, and nothing else.
 pub no_other_number : (rows : List Row) (s : Said) → s ≡ first_of rows → Among s.number (numbers_of rows)
-no_other_number rows s e = rw e (one_of rows)
+no_other_number rows s e = subst (λ (x : Said). Among x.number (numbers_of rows)) (sym e) (one_of rows)
   where
+    first_or_later : (t : Bool) (r : Row) (rows : List Row) → Among (first_of rows).number (numbers_of rows)
+        → Among (cond t r.says (first_of rows)).number (numbers_of (r ∷ rows))
+    first_or_later true r rows later = inr (inl refl)
+    first_or_later false r rows later = ⊎_elim inl (λ l. inr (inr l)) later
+
     one_of : (rows : List Row) → Among (first_of rows).number (numbers_of rows)
     one_of [] = inl refl
-    one_of (r ∷ rows) =
-        by_test r.holds (λ h. rw h (inr (inl refl))) (λ h. rw h (⊎_elim inl (λ later. inr (inr later)) (one_of rows)))
+    one_of (r ∷ rows) = first_or_later r.holds r rows (one_of rows)
 
 -- the last question of an opening
 yes_or_no : (t b : Bool) → said_in (cond t (telling b (finished 0)) (refusal 4)) ≡ cond (not t) (only 4) (only 0)
-yes_or_no t b = elim t [ true ↦ refl | false ↦ refl ]
+yes_or_no true b = refl
+yes_or_no false b = refl
 
 -- Which number a call on a message in pieces answers: that of the first condition that holds, and no other.
 pub said-standing : (mark : ℕ) (s : Said) → behind (standing mark) s
@@ -167,7 +188,8 @@ opens-end-number s tag = simp (yes_or_no, said_laws, said-standing)
 pub exported_ctr-start-number : (k : LuossavinKey) (decrypt : Bool) (iv : List ℕ)
     → said_in (host_ctr_start k decrypt iv).head ≡ first_of (ctr_start_rows k decrypt iv)
 unfolding host_ctr_start ctr_start key_and_iv cipher_in
-exported_ctr-start-number k decrypt iv = elim decrypt [ true ↦ simp said_laws | false ↦ simp said_laws ]
+exported_ctr-start-number k true iv = simp said_laws
+exported_ctr-start-number k false iv = simp said_laws
 
 pub exported_seal-start-number : (k : LuossavinKey) (label iv : List ℕ)
     → said_in (host_seal_start k label iv).head ≡ first_of (gcm_start_rows Encrypt k label iv)

@@ -1,10 +1,10 @@
 -- The worked table of docs/REQUIREMENTS.md and its edges hold of the definitions, by computation; and two blocks under a key are computed.
 use Rattle.demands.specs.Names as N
 use N.{Bool, false, true, List, [], ◌++◌, ◌∷◌, map, ◌≢◌, ◌∙◌, ◌≡◌, ap, refl, sym, ℕ, arith, get_or, length, replicate, ne_eqb, bytes_of}
-use N.{number_of, same, unwords, words, gmul, mul_from, times_x, ctr_next, gcm_next, finished, telling, under, CK, L, L', T, T', encrypt_block}
-use N.{encrypt_words, keys_from, rotl, round_keys, rounds, sbox_table, tau, hash_from, all_padding, names_padding, unpadded, refusal_head}
-use N.{lengths_of, mode_call, block_check, data_check, key_and_iv, message_check, room_check, new_cipher, Direction, Encrypt, Key, Sm4CipherMode}
-use N.{RefusedEnding, Checked, Passed, Refused, Head}
+use N.{number_of, same, unwords, words, gmul, mul_from, times_x, ctr_next, gcm_next, finished, telling, under, CK, L, L', T, T'}
+use N.{encrypt_block, encrypt_words, keys_from, rotl, round_keys, rounds, sbox_table, tau, hash_from, all_padding, names_padding, unpadded}
+use N.{refusal_head, lengths_of, mode_call, block_check, data_check, key_and_iv, message_check, room_check, new_cipher, Direction, Encrypt}
+use N.{Key, Sm4CipherMode, RefusedEnding, Checked, Passed, Refused, Head}
 use Rattle.demands.specs.Worked.{Row, table}
 use Rattle.demands.proofs.Answering.{head_behind, heads}
 use Rattle.cipher_mode.proofs.Refusals.{refuses, quiet_ending}
@@ -23,11 +23,13 @@ worked h = refl
 -- All rows, whether the tag is right or not: what the definitions say is what docs/REQUIREMENTS.md says.
 pub at_the_edges : (right : Bool) → map (λ (r : Edge). r.ours) (edges right) ≡ map (λ (r : Edge). r.paper) (edges right)
 unfolding message_check block_check key_and_iv data_check room_check new_cipher names_padding all_padding unpadded same
-at_the_edges right = elim right [ true ↦ refl | false ↦ refl ]
+at_the_edges true = refl
+at_the_edges false = refl
 
 verdict-refused : (k : Checked) (h : Head) (n : ℕ) → k ≢ Passed → head_behind k h ≡ verdict k n
 unfolding head_behind
-verdict-refused k h n = elim k [ Passed ↦ λ z. absurd (z refl) | Refused r ↦ λ _. refl ]
+verdict-refused Passed h n z = absurd (z refl)
+verdict-refused (Refused r) h n _ = refl
 
 -- a refusal says nothing of a counter
 verdict-done : (k : Checked) (n : ℕ) (b : Bool) → head_behind k (telling b (finished n)) ≡ telling_done b (verdict k n)

@@ -5,9 +5,9 @@ use N.{min, suc, zero, ℕ, arith, eqb, ltb, drop, length, length-append, length
 use N.{take-append_seam, le-ltb, ltb-false, blocks_of, ctr_came_round, Head, Outcome, done, keyed, leaving, refusal, refuseAs, reporting}
 use N.{under, over, chain, stream_mode, CtrKind, lengths_of, mode_result, mode_call, and_then, checked, refuse, key_and_iv, message_check}
 use N.{room_check, key_number, limit, mode_of, Ctr, RefusedEnding, NoRoom, TooLong, Checked, Passed, Refused, plan_call, no_pieces, plan_of}
-use N.{accepts, planned, range_call, range_check, reach_check, stretch, Share, all_worked, applied, laid_at, share_of, shares_of, worked, Making}
-use N.{BadWorkers, Made, TooLongMade, Plan, mode_in, host_mode_call, direction_of, cipher_in, making_head, host_ctr_by_plan, host_ctr_range}
-use N.{host_plan_make, LuossavinKey}
+use N.{accepts, planned, range_call, range_check, reach_check, stretch, Share, all_worked, applied, laid_at, share_of, shares_of, worked}
+use N.{Making, BadWorkers, Made, TooLongMade, Plan, mode_in, host_mode_call, direction_of, cipher_in, making_head, host_ctr_by_plan}
+use N.{host_ctr_range, host_plan_make, LuossavinKey}
 use Rattle.block.proofs.Same.{by_test}
 use Rattle.demands.specs.WhichNumber.{Said, said_in, only, first_of}
 use Rattle.demands.specs.Workers.{range_rows, plan_rows, make_rows, range_numbers, plan_numbers, PlanHanded, unsaid, ctr_call}

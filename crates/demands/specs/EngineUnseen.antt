@@ -2,8 +2,8 @@
 -- number and report, the same bytes, and a next state that is alike again.
 use Rattle.demands.specs.Names as N
 use N.{Bool, List, map, ◌≡◌, ℕ, with_engine, Direction, Sm4Cipher, Stepped, ctr_end, ctr_piece, seal_end, seal_piece, CtrState as Ctr, Seal}
-use N.{Plan, host_block_call, host_mode_call, host_ctr_start, host_opens_start, host_seal_start, host_key_engine, host_ctr_by_plan, host_ctr_range}
-use N.{host_which, LuossavinKeys, LuossavinKey}
+use N.{Plan, host_block_call, host_mode_call, host_ctr_start, host_opens_start, host_seal_start, host_key_engine, host_ctr_by_plan}
+use N.{host_ctr_range, host_which, LuossavinKeys, LuossavinKey}
 
 -- a record whose engine the library chooses, and all else as it was
 abbrev pub unmarked : Sm4Cipher → Sm4Cipher
@@ -62,7 +62,8 @@ pub record ReportedAlike (k l : LuossavinKey) : Type 0 where
       → host_mode_call dir mode k label e iv o ≡ host_mode_call dir mode l label e iv o
   pub ctr : (decrypt : Bool) (iv : List ℕ)
       → seen Ctr unmarked_ctr (host_ctr_start k decrypt iv) ≡ seen Ctr unmarked_ctr (host_ctr_start l decrypt iv)
-  pub sealing : (label iv : List ℕ) → seen Seal unmarked_seal (host_seal_start k label iv) ≡ seen Seal unmarked_seal (host_seal_start l label iv)
+  pub sealing : (label iv : List ℕ)
+      → seen Seal unmarked_seal (host_seal_start k label iv) ≡ seen Seal unmarked_seal (host_seal_start l label iv)
   pub opening : (label iv : List ℕ) → host_opens_start k label iv ≡ host_opens_start l label iv
   pub which : (file iv labels lengths : List ℕ) → host_which k file iv labels lengths ≡ host_which l file iv labels lengths
   pub range : (decrypt : Bool) (iv : List ℕ) (offset : ℕ) (e o : List ℕ)

@@ -3,10 +3,11 @@
 use Rattle.demands.specs.Names as N
 use N.{Bool, false, not, true, List, [], ◌++◌, ◌∷◌, ◌*◌, ◌+◌, ◌-◌, ◌/◌, ℕ, eqb, drop, length, replicate, take, blocks_of, ctr_came_round}
 use N.{Outcome, done, leaving, refuseAs, refused, telling, over, round_keys, and_then, checked, data_check, key_and_iv, refuse, key_number}
-use N.{new_cipher, Ctr, Gcm, Direction, Decrypt, Encrypt, Key, Sm4Cipher, TooLong, Passed, Stepped, begun, step_on, seal_after, seal_shut, Seal}
-use N.{any_too_long, checked_verdict, first_opening, on_key, opens_with, accepts, Plan, ShelfOutcome, holding, put_in, shelfRefuse, records}
-use N.{storedShelf as stored, bad_shelf, current_of, fitted, not_higher, supersede, host_hash_blocks, host_hash_join, host_mode_call, direction_of}
-use N.{cipher_in, host_key_new, host_ctr_by_plan, host_ctr_range, Told, host_which, told_of, U128, LuossavinKey}
+use N.{new_cipher, Ctr, Gcm, Direction, Decrypt, Encrypt, Key, Sm4Cipher, TooLong, Passed, Stepped, begun, step_on, seal_after, seal_shut}
+use N.{Seal, any_too_long, checked_verdict, first_opening, on_key, opens_with, accepts, Plan, ShelfOutcome, holding, put_in, shelfRefuse}
+use N.{records, storedShelf as stored, bad_shelf, current_of, fitted, not_higher, supersede, host_hash_blocks, host_hash_join}
+use N.{host_mode_call, direction_of, cipher_in, host_key_new, host_ctr_by_plan, host_ctr_range, Told, host_which, told_of, U128}
+use N.{LuossavinKey}
 use Rattle.demands.specs.Call.{Call, result}
 use Rattle.demands.specs.Workers.{RangeCall}
 

@@ -1,9 +1,13 @@
 -- The names of the layers below, and of the kit, that the demands are written with, each with the module where it is defined.
-pub use Rattle.std.specs.Prelude.{Bool, ◌&&◌, ◌||◌, cond, false, not, true, ◌≢◌, ◌⊎◌, ◌≡◌, refl, ◌%◌, ◌*◌, ◌+◌, ◌-◌, ◌/◌, ◌<◌, ◌^◌, ◌≤◌, max, min, suc, zero, ℕ, eqb, leb, ltb, drop, get_or, length, replicate, take}
+pub use Rattle.std.specs.Prelude.{Bool, ◌&&◌, ◌||◌, cond, false, not, true, ◌≢◌, ◌⊎◌, ◌≡◌, refl, ◌%◌, ◌*◌, ◌+◌, ◌-◌, ◌/◌, ◌<◌, ◌^◌, ◌≤◌}
+pub use Rattle.std.specs.Prelude.{max, min, suc, zero, ℕ, eqb, leb, ltb, drop, get_or, length, replicate, take}
 pub use mathlib.Core.List.Pairwise.{cons as PairwiseCons}
 pub use mathlib.Core.List.{List, Mem, Perm, [], ◌++◌, ◌∷◌, append_assoc, append-nil, foldr, map, mem_of_ne_of_mem}
 pub use mathlib.Core.List.{mem-singleton, Pairwise-singleton}
-pub use Rattle.std.proofs.Common.{inl, inr, ⊎_elim, ◌∙◌, ap, ap₂, subst, sym, div-add-mod', eq-zero-or-pos, le_of_eq, le_trans, lt_of_le_of_lt, mul-le-mul_right, arith, lit<, lit≤, drop_of_length-le, length-append, length-drop, length-take, take-append-drop, drop_at, drop-drop, length-take-le, take_at, eq-eqb, eqb-true, le-ltb, leb-false, leb-true, lt-ltb, ltb-false, ltb-true, ne_eqb}
+pub use Rattle.std.proofs.Common.{inl, inr, ⊎_elim, ◌∙◌, ap, ap₂, subst, sym, div-add-mod', eq-zero-or-pos, le_of_eq, le_trans}
+pub use Rattle.std.proofs.Common.{lt_of_le_of_lt, mul-le-mul_right, arith, lit<, lit≤, drop_of_length-le, length-append, length-drop}
+pub use Rattle.std.proofs.Common.{length-take, take-append-drop, drop_at, drop-drop, length-take-le, take_at, eq-eqb, eqb-true, le-ltb}
+pub use Rattle.std.proofs.Common.{leb-false, leb-true, lt-ltb, ltb-false, ltb-true, ne_eqb}
 pub use Rattle.std.proofs.Math.Nat.{max-le, ℕ_set}
 pub use Rattle.std.proofs.lemmas.List.{length-replicate, drop-append-le}
 pub use Rattle.std.proofs.Math.Seq.{take-append_seam}
@@ -27,7 +31,8 @@ pub use Rattle.cipher_mode.specs.Outcome.{reporting}
 pub use Rattle.cipher_mode.specs.Outcome.{telling, under, written}
 pub use Rattle.block.specs.Over.{over}
 unfoldable pub use Rattle.walk.specs.Walk.{chain, walk}
-unfoldable pub use Rattle.cipher.specs.Sm4.{CK, L, L', T, T', encrypt_block, encrypt_words, keys_from, rotl, round_keys, rounds, sbox_table, tau}
+unfoldable pub use Rattle.cipher.specs.Sm4.{CK, L, L', T, T', encrypt_block, encrypt_words, keys_from, rotl, round_keys, rounds, sbox_table}
+unfoldable pub use Rattle.cipher.specs.Sm4.{tau}
 pub use Rattle.ghash.specs.Ghash.{block_count, ghash}
 unfoldable pub use Rattle.ghash.specs.Ghash.{auth_blocks, block_of as GhashBlock, blocks, blocks_from, hash_from, length_block}
 unfoldable pub use Rattle.ghash.specs.Joined.{joined}
@@ -77,7 +82,8 @@ pub use Rattle.cipher_mode.specs.declared.checks.Checked.{Checked}
 pub use Rattle.cipher_mode.specs.declared.checks.Checked.TheVariants.{Passed, Refused}
 pub use Rattle.cipher_mode.specs.declared.checks.Lengths.{Lengths}
 pub use Rattle.pieces.specs.Calls.{Stepped, begun, ctr_stepped, ended, goes_on, opens_stepped, seal_stepped, step_on}
-unfoldable pub use Rattle.pieces.specs.Calls.{ctr_end, ctr_piece, ctr_start, opens_end, opens_piece, opens_start, seal_end, seal_piece, seal_start}
+unfoldable pub use Rattle.pieces.specs.Calls.{ctr_end, ctr_piece, ctr_start, opens_end, opens_piece, opens_start, seal_end, seal_piece}
+unfoldable pub use Rattle.pieces.specs.Calls.{seal_start}
 unfoldable pub use Rattle.pieces.specs.Checks.{gcm_starting, running, standing, tagged, writing}
 unfoldable pub use Rattle.pieces.specs.Flow.{flow_text}
 unfoldable pub use Rattle.pieces.specs.Hashing.{hash_end}

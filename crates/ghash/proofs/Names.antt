@@ -3,7 +3,7 @@ pub use lib.Seq.{ext_get_or, get_or-drop}
 pub use Rattle.block.proofs.Base.{List, get_or-eq_default, [], ◌%◌, ◌*◌, ◌++◌, ◌+◌, ◌-◌, ◌/◌, ◌<◌, ◌^◌, ◌∙◌, ◌∷◌, ◌≡◌, ◌≢◌, ◌≤◌}
 pub use Rattle.block.proofs.Base.{add-zero, ap, append_assoc, ap₂, arith, digits_div, digits_lt, digits_mod, drop, drop-append-le}
 pub use Rattle.block.proofs.Base.{drop-drop, drop_of_length-le, eq-zero-or-pos, get_or, get_or-take, inl, inr, le_of_eq, length, length-append}
-pub use Rattle.block.proofs.Base.{length-drop, length-take, length-take-le, lit<, lt_of_le_of_lt, mod-eq_of_lt, mod-lt, rules, refl}
+pub use Rattle.block.proofs.Base.{length-drop, length-take, length-take-le, lit<, mod-eq_of_lt, mod-lt, rules, refl}
 pub use Rattle.block.proofs.Base.{replicate, set, suc, suc-add, sym, take, take_all, take-append-drop, take-append-le, take_at, xor_comm}
 pub use Rattle.block.proofs.Base.{xor_lt, xor_self, xor_zero_r, zero, zero-add, ℕ, ⊎_elim}
 pub use Rattle.block.proofs.Convert.{length-bytes_of, number_of-append, number_of-bytes_of, number_of-lt, number_of-same}

@@ -10,8 +10,8 @@ use Rattle.cipher_mode.specs.Checks.{and_then, key_and_iv, data_check}
 use Rattle.cipher_mode.specs.Key.{key_number}
 use Rattle.cipher_mode.proofs.Refusals.{refuses}
 use Rattle.editions.specs.Candidates.{sum, bad_list, any_too_long}
-use Rattle.editions.specs.Which.{Verdict, none_with, found_at, on_key, first_opening, search_check, checked_verdict, opens_with, which, verdict_of}
-use Rattle.editions.specs.Which.{ended_head as endedHeadThere}
+use Rattle.editions.specs.Which.{Verdict, none_with, found_at, on_key, first_opening, search_check, checked_verdict, opens_with, which}
+use Rattle.editions.specs.Which.{verdict_of, ended_head as endedHeadThere}
 use Rattle.editions.specs.declared.Ended.{Ended}
 use Rattle.editions.specs.declared.Ended.TheVariants.{Candidate, None, BadList, Refused as RefusedThere}
 use Rattle.editions.specs.declared.Found.{Found}

@@ -16,6 +16,7 @@ pub struct LuossavinKey {
     pub engine: u8,
 }
 
+#[tactic(auto, unfolding(crate::specs::Key::key_answer_of))]
 fn key_answer_of(answer: u32) -> KeyAnswer
     ensures { result ≡ key_answer_of answer }
 {

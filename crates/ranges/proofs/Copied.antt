@@ -57,7 +57,7 @@ copies-join at m n end (c ∷ t) [] e = refl
 copies-join zero zero n end (c ∷ t) (x ∷ u) e =
     let z : end ≡ 0 = omega (arith, e) in
     let k : 0 + n ≡ n = omega arith in
-    rw (z, k) (none_zipped _ 0 (c ∷ t) (copied 0 n (c ∷ t) (x ∷ u)))
+    rw (z, k) (none_zipped (λ x c. c) 0 (c ∷ t) (copied 0 n (c ∷ t) (x ∷ u)))
 copies-join zero (suc m) n zero (c ∷ t) (x ∷ u) e = absurd (omega (arith, e))
 copies-join zero (suc m) n (suc end) (c ∷ t) (x ∷ u) e =
     let k : suc m + n ≡ suc (m + n) = omega arith in

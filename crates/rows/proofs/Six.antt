@@ -1,5 +1,5 @@
 -- Six stages, from 32 down to 1, transpose.
-use Rattle.block.proofs.Base.{◌%◌, ◌*◌, ◌+◌, ◌-◌, ◌/◌, ◌<◌, ◌^◌, ◌≤◌, ℕ, ◌∙◌, ◌≡◌, ap₂, ⊎_elim, List, [], ◌∷◌, arith, lit<}
+use Rattle.block.proofs.Base.{◌%◌, ◌*◌, ◌+◌, ◌/◌, ◌<◌, ◌^◌, ◌≤◌, ℕ, ◌∙◌, ◌≡◌, ap₂, ⊎_elim, List, [], ◌∷◌, arith, lit<}
 use Rattle.block.proofs.Base.{get_or-eq_default, get_or}
 use Rattle.lanes.specs.Bits.{bit}
 use Rattle.lanes.proofs.Bits.{lt-or-le}

@@ -1,5 +1,5 @@
 -- The S-boxes of a byte, column by column.
-use Rattle.sliced.proofs.Names.{Held, List, Masks, Sbox, SboxLanes, [], ◌%◌, ◌*◌, ◌+◌, ◌-◌, ◌/◌, ◌<◌, ◌^◌, ◌∙◌, ◌∷◌, ◌≡◌, ◌≤◌, ◌⊎◌}
+use Rattle.sliced.proofs.Names.{Held, List, Masks, Sbox, SboxLanes, [], ◌%◌, ◌*◌, ◌+◌, ◌-◌, ◌/◌, ◌<◌, ◌^◌, ◌∙◌, ◌∷◌, ◌≡◌, ◌≤◌}
 use Rattle.sliced.proofs.Names.{add-zero, ap, ap₂, arith, bit, bit-mod, bit-pack, bit-shr, bit-small, bit-xor, byte_lane, column}
 use Rattle.sliced.proofs.Names.{each8, get_or, keyed, lane, length, lit<, lt-or-le, mod-eq_of_lt, mod-lt, one_more, pack, pack_is}
 use Rattle.sliced.proofs.Names.{puts, puts_in, puts_out, refl, subbed, summed, sym, tau-bit, ℕ, ⊎_elim}

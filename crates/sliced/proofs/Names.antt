@@ -1,8 +1,8 @@
 -- The names from outside this crate's proofs that they use, each with the module that has it.
-pub use Rattle.block.proofs.Base.{Bool, Fits, List, [], ◌%◌, ◌*◌, ◌+◌, ◌-◌, ◌/◌, ◌<◌, ◌^◌, ◌∙◌, ◌∷◌, ◌≡◌, ◌≤◌, ◌⊎◌, add-one, add-zero, ap}
-pub use Rattle.block.proofs.Base.{ap₂, arith, bit_and, differ, digits_div, digits_mod, drop, drop_of_length-le, false, get_or, get_or-set_other}
-pub use Rattle.block.proofs.Base.{get_or-set_same, leb, leb→le, length, length-set, lit<, min, mod-eq_of_lt, mod-lt, mod-mul, rules, pow-suc}
-pub use Rattle.block.proofs.Base.{refl, set, subst, suc, sym, true, w32, xor_lt, zero, ℕ, ⊎_elim}
+pub use Rattle.block.proofs.Base.{Bool, Fits, List, [], ◌%◌, ◌*◌, ◌+◌, ◌-◌, ◌/◌, ◌<◌, ◌^◌, ◌∙◌, ◌∷◌, ◌≡◌, ◌≤◌, add-one, add-zero, ap}
+pub use Rattle.block.proofs.Base.{ap₂, arith, bit_and, differ, digits_div, digits_mod, drop, drop_of_length-le, false, get_or}
+pub use Rattle.block.proofs.Base.{get_or-set_other, get_or-set_same, leb, leb→le, length, length-set, lit<, min, mod-eq_of_lt, mod-lt}
+pub use Rattle.block.proofs.Base.{mod-mul, pow-suc, refl, rules, set, subst, suc, sym, true, w32, xor_lt, zero, ℕ, ⊎_elim}
 pub use Rattle.block.proofs.Convert.{bytes_of-number_of}
 pub use Rattle.block.proofs.Entries.{below_at, below_each}
 pub use Rattle.block.proofs.Table.{rule_at}

@@ -37,7 +37,8 @@ added-first m i a x y hx hy =
     record { size_x = hx; size_y = hy; sum = λ q k hq. absurd (omega arith); same_x = λ p h. refl; same_y = λ q h. refl }
 
 pub added_next : (m i : ℕ) (a x₀ y₀ : List ℕ) (j c : ℕ) (x y x' : List ℕ) → j < 8
-    → WordAdded (8 * i + j) (get_or a j 0) (get_or y j 0) m x x' c → RowAdded m i j a x₀ y₀ x y → RowAdded m i (j + 1) a x₀ y₀ x' (set y j c)
+    → WordAdded (8 * i + j) (get_or a j 0) (get_or y j 0) m x x' c
+    → RowAdded m i j a x₀ y₀ x y → RowAdded m i (j + 1) a x₀ y₀ x' (set y j c)
 added_next m i a x₀ y₀ j c x y x' hj W R =
     let ly = R.size_y in
     record {

@@ -22,6 +22,7 @@ ctr-walk-says rk iv d n a =
     walk_passes_lem (stream_mode Ctr rk) ctr_next ctr_passes (λ s b. refl) (blocks_of (length d) - 1) iv d
     ∙ ctr_steps_tell iv n a (blocks_of (length d))
 
-pub gcm-walk-says : (rk j d : List ℕ) → length j ≡ 16 → AreBytes j → gcm_walk_says rk j d ≡ gcm_came_round (last_four j) (blocks_of (length d))
+pub gcm-walk-says : (rk j d : List ℕ) → length j ≡ 16 → AreBytes j
+    → gcm_walk_says rk j d ≡ gcm_came_round (last_four j) (blocks_of (length d))
 unfolding gcm_walk_says
 gcm-walk-says rk j d n a = gcm-blocks rk j d (blocks_of (length d)) ∙ gcm_steps_tell j n a (blocks_of (length d))

@@ -1,6 +1,6 @@
 -- The names from outside this crate's proofs that they use, each with the module that has it.
 pub use Rattle.block.proofs.Base.{Bool, Fits, List, [], ◌%◌, ◌*◌, ◌++◌, ◌+◌, ◌-◌, ◌/◌, ◌<◌, ◌^◌, ◌∙◌, ◌∷◌, ◌≡◌, ◌≤◌, ◌⊎◌, ap, append_assoc}
-pub use Rattle.block.proofs.Base.{arith, drop, false, get_or, inl, inr, length, length-append, length-drop, length-take-le, rules, not-true}
+pub use Rattle.block.proofs.Base.{arith, drop, false, get_or, inl, inr, length, length-append, length-drop, length-take-le, rules}
 pub use Rattle.block.proofs.Base.{refl, sub-zero, suc, sym, take, true, w32, zero, ℕ}
 pub use Rattle.block.proofs.Cat.{cat-next, cat-same, length-block_at}
 pub use Rattle.block.proofs.Convert.{bytes_of-bytes, length-bytes_of}

@@ -12,7 +12,8 @@ Ends k rk on s d o r q t =
 
 module _ (k : Kind) (rk : List ℕ) {s d o r p : List ℕ} {at : ℕ} (R : Reached (stream_mode k rk) s d o r p at) where
   -- n blocks more were written
-  pub blocks_on : (n : ℕ) (r' t : List ℕ) → at + 16 * n ≤ length d → at + 16 * n ≤ length p → r' ≡ stepped (stream_mode k rk) n r (drop at d)
+  pub blocks_on : (n : ℕ) (r' t : List ℕ) → at + 16 * n ≤ length d → at + 16 * n ≤ length p
+      → r' ≡ stepped (stream_mode k rk) n r (drop at d)
       → t ≡ over (cat n (gives (stream_mode k rk) r (drop at d))) (tailed at p)
       → Reached (stream_mode k rk) s d o r' (returned at p t) (at + 16 * n)
   blocks_on n r' t hd hp =

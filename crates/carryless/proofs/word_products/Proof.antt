@@ -13,7 +13,7 @@ word_products_spec = tie.close (tie.spec
     (λ m a b z₀ k₀ z k. (k ≤ 8) × (length z ≡ 9) × Each (λ i. clmul 32 (get_or a i 0) (get_or b i 0)) k z) (λ m a b z₀ k₀ z k. 8 - k)
     (λ c. search rules) (λ c. search rules) (λ c. search rules) (λ c. search rules) (λ c. search rules) (λ c. search rules)
     (λ c. search rules) (λ c. search rules)
-    (λ c.
+    (λ c κs.
     let at_b = c.before.before in
     rw at_b.words_of-b.ensures.0 (lends_word _ _ at_b.requires c.loop-k.k (omega arith)))
     (λ c. search rules) (λ c. search rules) (λ c. search rules) (λ c. search rules)
@@ -21,7 +21,7 @@ word_products_spec = tie.close (tie.spec
     let l = c.loop-k in
     (omega arith, search rules, each_next _ l.k _ l.z (omega arith) c.lent32.ensures l.invariant.2))
     (λ c. search rules) (λ c. search rules)
-    (λ c.
+    (λ c κs.
     let at_b = c.before.before in
     rw at_b.words_of-b.ensures.0 (lends_word _ _ at_b.requires 8 (omega arith)))
     (λ c. search rules)

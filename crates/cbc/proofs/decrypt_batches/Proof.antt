@@ -40,7 +40,7 @@ returns_3 c =
     let sixteen = length-unwords a.iv in (
       l.invariant.whole,
       rw (block-before s d l.at sixteen l.invariant.behind)
-          (fed_reached _ (decrypt_fed a.back) d _ s (a.out-1.now) l.out l.at l.invariant sixteen (omega arith) (omega arith)
+          (fed_reached _ (decrypt_fed a.back) d _ s (a.out.now) l.out l.at l.invariant sixteen (omega arith) (omega arith)
           at-step.decrypt_step.ensures.1),
     )
 

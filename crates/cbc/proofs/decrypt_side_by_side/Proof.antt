@@ -32,7 +32,8 @@ loop_again c =
     )
 
 pub decrypt_side_by_side_spec : {M : Type 1} → statement M
-decrypt_side_by_side_spec = tie.close (tie.spec invariant_loop decreases_loop (λ c. (reached-first _ _ _ _, refl)) (λ c. omega arith) (λ c. omega arith)
+decrypt_side_by_side_spec = tie.close (tie.spec invariant_loop decreases_loop (λ c. (reached-first _ _ _ _, refl)) (λ c. omega arith)
+    (λ c. omega arith)
     (λ c. omega arith) (λ c. omega arith) (λ c. omega arith) (λ c. omega arith) (λ c. omega arith) (λ c. omega arith) (λ c. omega arith)
-    (λ c. (omega arith, omega arith, omega arith)) (λ c. omega arith) (λ c. omega arith) (λ c. (omega arith, omega arith))
+    (λ c κs. (omega arith, omega arith, omega arith)) (λ c. omega arith) (λ c. omega arith) (λ c κs. (omega arith, omega arith))
     (λ c. omega arith) loop_again (λ c. omega arith) (λ c. walk-ended c.loop-at.invariant.0 (omega arith) refl))

@@ -16,14 +16,14 @@ returns c =
     let S = at-data.before.before in
     let a = S.args in
     let d = a.«data».now in
-    let state = S.well-formed.1.1.0 in
+    let state = S.well_formed.1.1.0 in
     let four : length a.s ≡ 4 = search (rules, state) in
     let small : (i : ℕ) → get_or d i 0 < 256 = λ i. omega (arith, at-data.shared_slice_known-2-1.given i) in
     let bytes = below_each 256 d small in
     let decrypted = decrypted_front (reverse a.back) d a.s S.requires.1.0 bytes four in (
       rw c.split_block-2.ensures (unwords-front d S.requires.1.0 bytes),
       at-put-block.put_block.ensures ∙ rw (at-xor.block_xor.ensures, at-encrypt.encrypt-p.ensures, at_split.split_block.ensures)
-          (rw (decrypt-turned a.back (words d)) at (ap (λ (l : List ℕ). l ++ drop 16 (a.out-1.now)) decrypted)),
+          (rw (decrypt-turned a.back (words d)) at (ap (λ (l : List ℕ). l ++ drop 16 (a.out.now)) decrypted)),
     )
 
 pub decrypt_step_spec : {M : Type 1} → statement M

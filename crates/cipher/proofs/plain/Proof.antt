@@ -16,7 +16,7 @@ loop_holds : tie.Need-loop-i-init invariant_loop decreases_loop
 unfolding sbox_table
 loop_holds c = (refl, search rules, refl, refl)
 
-cast_wide : tie.Need-overflow-cast-wide invariant_loop decreases_loop
+cast_wide : tie.Need-overflow_cast-wide invariant_loop decreases_loop
 unfolding sbox_table
 cast_wide c = record { fits = omega (arith, sbox-byte c.loop-i.i (omega arith)) }
 

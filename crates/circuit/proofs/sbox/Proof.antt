@@ -1,7 +1,8 @@
 -- `circuit::sbox` meets its contract: the code's gates are the circuit's, by computing, and the circuit is the S-box in every
 -- lane (`circuit_lanes`).
 use Rattle.block.proofs.Base.{rules}
-use Rattle.circuit.proofs.Circuit.{circuit, circuit_lanes}
+use Rattle.circuit.proofs.Gates.{circuit}
+use Rattle.circuit.proofs.Circuit.{circuit_lanes}
 use Rattle.circuit.proofs.sbox.Statement.{statement}
 use Rattle.circuit.proofs.sbox.Tie as tie
 

@@ -15,15 +15,13 @@ decreases_loop lengths n left₀ i₀ left i = length lengths - i
 
 returns : tie.Need-returns-then-next-left invariant_loop decreases_loop
 returns c =
-    let at_loop = c.before.before.before in
-    let a = at_loop.args in
-    let turn = sum_turn (a.lengths.now) at_loop.loop-i.i (omega arith) in
+    let a = c.args in
+    let turn = sum_turn (a.lengths.now) c.loop-i.i (omega arith) in
     sym (ne_eqb (sum (a.lengths.now)) a.n (λ e. omega arith))
 
 loop_again : tie.Need-loop-i-preserved invariant_loop decreases_loop
 loop_again c =
-    let at_loop = c.before.before.before in
-    let turn = sum_turn (at_loop.args.lengths.now) at_loop.loop-i.i (omega arith) in
+    let turn = sum_turn (c.args.lengths.now) c.loop-i.i (omega arith) in
     omega arith
 
 returns_2 : tie.Need-returns invariant_loop decreases_loop
@@ -31,8 +29,9 @@ returns_2 c =
     let a = c.args in
     let past = sum-end (a.lengths.now) c.loop-i.i (omega arith) in
     test_iff _ _ (λ e. eq-eqb (sum (a.lengths.now)) a.n (omega (arith, eqb-true)))
-    (λ e. eq-eqb c.loop-i.false 0 (omega (arith, eqb-true)))
+    (λ e. eq-eqb c.loop-i.left 0 (omega (arith, eqb-true)))
 
 pub add_up_spec : {M : Type 1} → statement M
-add_up_spec = tie.close (tie.spec invariant_loop decreases_loop (λ c. omega arith) (λ c. omega arith) (λ c. omega arith) returns (λ c. omega arith)
+add_up_spec = tie.close (tie.spec invariant_loop decreases_loop (λ c. omega arith) (λ c. omega arith) (λ c. omega arith) returns
+    (λ c. omega arith)
     (λ c. omega arith) loop_again returns_2)

@@ -13,21 +13,19 @@ decreases_loop lengths i₀ i = length lengths - i
 
 returns : tie.Need-returns-then-lengths-i-gt-LIMIT invariant_loop decreases_loop
 returns c =
-    let at_loop = c.before.before.before in
-    let turn = long_turn (at_loop.args.lengths.now) at_loop.loop-i.i (omega arith) in
-    sym (sym at_loop.loop-i.invariant.1 ∙ turn ∙ rw (lt-ltb _ _ c.if-lengths-i-gt-LIMIT.true))
+    let turn = long_turn (c.args.lengths.now) c.loop-i.i (omega arith) in
+    sym (sym c.loop-i.invariant.1 ∙ turn ∙ rw (lt-ltb _ _ c.if-lengths-i-gt-LIMIT.true))
 
 loop_again : tie.Need-loop-i-preserved invariant_loop decreases_loop
 loop_again c =
-    let at_loop = c.before.before.before in
-    let turn = long_turn (at_loop.args.lengths.now) at_loop.loop-i.i (omega arith) in
-    (omega arith, sym (sym at_loop.loop-i.invariant.1 ∙ turn ∙ rw (le-ltb _ _ c.if-lengths-i-gt-LIMIT.false)))
+    let turn = long_turn (c.args.lengths.now) c.loop-i.i (omega arith) in
+    (omega arith, sym (sym c.loop-i.invariant.1 ∙ turn ∙ rw (le-ltb _ _ c.if-lengths-i-gt-LIMIT.false)))
 
 returns_2 : tie.Need-returns invariant_loop decreases_loop
 returns_2 c =
-    let at_loop = c.before in
-    sym (long-end (at_loop.args.lengths.now) at_loop.loop-i.i (omega arith)) ∙ at_loop.loop-i.invariant.1
+    sym (long-end (c.args.lengths.now) c.loop-i.i (omega arith)) ∙ c.loop-i.invariant.1
 
 pub any_too_long_spec : {M : Type 1} → statement M
-any_too_long_spec = tie.close (tie.spec invariant_loop decreases_loop (λ c. (omega arith, refl)) (λ c. omega arith) (λ c. omega arith) returns
+any_too_long_spec = tie.close (tie.spec invariant_loop decreases_loop (λ c. (omega arith, refl)) (λ c. omega arith)
+    (λ c. omega arith) returns
     (λ c. omega arith) (λ c. omega arith) loop_again returns_2)

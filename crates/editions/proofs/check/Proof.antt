@@ -7,9 +7,9 @@ use Rattle.editions.proofs.check.Tie as tie
 pub check_spec : {M : Type 1} → statement M
 unfolding search_check
 check_spec = tie.close (tie.spec (λ c. search rules) (λ c. search rules) (λ c. search rules)
-    (λ c. rw (← c.key_and_iv-first.ensures, c.enum_told-in_default-1.given.1)) (λ c. search rules)
-    (λ c. let told = c.before.before in rw (← told.key_and_iv-first.ensures, told.enum_told-1.given.1)
+    (λ c. rw (← c.key_and_iv-first.ensures, c.in_default.is)) (λ c. search rules)
+    (λ c. rw (← c.key_and_iv-first.ensures, c.in-Passed.is)
     (rw (← c.any_too_long.ensures, c.if-any_too_long.true)))
     (λ c. search rules)
-    (λ c. let told = c.before.before.before in rw (← told.key_and_iv-first.ensures, told.enum_told-1.given.1)
+    (λ c. rw (← c.key_and_iv-first.ensures, c.in-Passed.is)
     (rw (← c.any_too_long.ensures, c.if-any_too_long.false) c.«data».ensures)))

@@ -28,25 +28,21 @@ room : (x : tie.In-loop-i invariant_loop decreases_loop)
 room x = omega (arith, sum_turn (x.args.lengths.now) x.loop-i.i (omega arith))
 
 opens-after_requires : tie.Need-opens_after-requires invariant_loop decreases_loop
-opens-after_requires c =
-    let at_loop = c.before.before.before in
-    let S = at_loop.before.before.before.before in
-    let short = short_turn (S.args.lengths.now) at_loop.loop-i.i (omega arith) at_loop.loop-i.invariant.2 in
-    let within = data-within _ _ _ S.requires.1.0 in
-    ((simp length-take (omega (arith, short.0)), omega (arith, within)), (with_tag_passed _ S.requires.1.0, S.requires.0))
+opens-after_requires c _ =
+    let short = short_turn (c.args.lengths.now) c.loop-i.i (omega arith) c.loop-i.invariant.2 in
+    let within = data-within _ _ _ c.requires.1.0 in
+    ((simp length-take (omega (arith, short.0)), omega (arith, within)), (with_tag_passed _ c.requires.1.0, c.requires.0))
 
 returns : tie.Need-returns-then-opens_after invariant_loop decreases_loop
 returns c =
-    let at_loop = c.before.before.before.before.before in
-    let l = at_loop.loop-i in
-    let ns = at_loop.args.lengths.now in
+    let l = c.loop-i in
+    let ns = c.args.lengths.now in
     ap (on_key _) (rw c.if-opens_after.true at (search_turn ns l.i (omega arith) _ _ _ _ _ l.invariant.3 c.opens_after.ensures))
 
 loop_again : tie.Need-loop-i-preserved invariant_loop decreases_loop
 loop_again c =
-    let at_loop = c.before.before.before.before.before in
-    let l = at_loop.loop-i in
-    let ns = at_loop.args.lengths.now in
+    let l = c.loop-i in
+    let ns = c.args.lengths.now in
     let turn = sum_turn ns l.i (omega arith) in
     let short = short_turn ns l.i (omega arith) l.invariant.2 in
     let found = search_turn ns l.i (omega arith) _ _ _ _ _ l.invariant.3 c.opens_after.ensures in
@@ -59,6 +55,6 @@ returns_2 c =
 
 pub search_spec : {M : Type 1} → statement M
 search_spec = tie.close (tie.spec invariant_loop decreases_loop
-    (λ c. let S = c.before.before.before in (omega arith, omega (arith, S.requires.1.1.0), S.requires.1.1.1, refl)) (λ c. omega arith)
+    (λ c. (omega arith, omega (arith, c.requires.1.1.0), c.requires.1.1.1, refl)) (λ c. omega arith)
     (λ c. omega arith) (λ c. omega (arith, room c.before)) (λ c. omega arith) (λ c. omega arith) (λ c. omega (arith, room c.before))
     opens-after_requires returns (λ c. omega arith) (λ c. omega arith) loop_again (λ c. search rules) returns_2)

@@ -13,19 +13,16 @@ use Rattle.editions.proofs.under_key.Tie as tie
 returns_2 : tie.Need-returns
 unfolding opens_under tag_of
 returns_2 c =
-    let at-mask = c.before.before.before in
-    let at-counter = at-mask.before in
-    let at_key = at-counter.before in
-    let j = at-counter.first_counter_lem.result in
+    let j = c.first_counter.result in
     let four : length j ≡ 4 = search rules in
     let fits : (i : ℕ) → Fits w32 (get_or j i 0) = λ i. search rules in
     let spelled = below_each (2 ^ 32) j (λ i. (fits i).fits) in
-    rw (c.search.ensures, at-mask.encrypt-mask.ensures, encrypt-unwords _ j four spelled, at-counter.first_counter_lem.ensures)
-    (rw at_key.hash_key-h.ensures)
+    rw (c.search.ensures, c.encrypt-mask.ensures, encrypt-unwords _ j four spelled, c.first_counter.ensures)
+    (rw c.hash_key-h.ensures)
 
 pub under_key_spec : {M : Type 1} → statement M
 under_key_spec = tie.close (tie.spec (λ c. search rules)
     (λ c. rw c.without.ensures (ap (on_key _) (search-end _ 0 (omega arith) _ _ 0 _ refl))) (λ c. search rules) (λ c. search rules)
     (λ c. search rules) (λ c. search rules) (λ c. search rules) (λ c. search (rules, iv_twelve_or_sixteen)) (λ c. search rules)
     (λ c. search (rules, with_tag_passed)) (λ c. search rules)
-    (λ c. (rw c.text_part.ensures at c.of-half.ensures, search rules)) returns_2)
+    (λ c _. (rw c.text_part.ensures at c.of-half.ensures, search rules)) returns_2)

@@ -8,7 +8,7 @@ returns : tie.Need-returns
 returns c =
     let S = c.before.before.before.before.before in
     let a = S.args in
-    let mask = S.well-formed.0 in
+    let mask = S.well_formed.0 in
     let four : length a.mask ≡ 4 = search (rules, mask) in
     masked-words a.mask (a.aad.now) (a.text.now) _ _ (value a.h) _ four
     c.galois_hash.ensures c.from_u128-hash.ensures c.block_xor.ensures

@@ -9,7 +9,7 @@ unfolding tag_of
 returns c =
     let S = c.before.before.before.before.before in
     let a = S.args in
-    let counter = S.well-formed.1.1.1.0 in
+    let counter = S.well_formed.1.1.1.0 in
     let four : length a.j0 ≡ 4 = search (rules, counter) in
     let fits : (i : ℕ) → Fits w32 (get_or a.j0 i 0) = λ i. search (rules, counter) in
     c.masked_tag.ensures ∙ ap (λ (m : List ℕ). masked_tag m (value a.h) (a.aad.now) (a.text.now))

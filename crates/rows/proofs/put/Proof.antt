@@ -13,7 +13,7 @@ put_spec = tie.close (next8 tie.spec (omega arith)
     (λ c.
     let S = c.before.before.before in
     let a = S.args in
-    let x = a.t4 in
+    let x = a.x in
     let w : (i : ℕ) → Fits w32 (get_or x i 0) = λ i. search rules in
     let n : length x ≡ 4 = search rules in
     let p = c.place_of-p in (

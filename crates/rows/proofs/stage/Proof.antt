@@ -13,7 +13,7 @@ stage_spec = tie.close (tie.spec
     let l = c.loop-i in
     let S = c.before.before.before in
     record { fits = omega (arith, groups S.args.w l.i S.args.n (search rules), S.requires.1) })
-    (λ c.
+    (λ c κs.
     let l = c.loop-i in
     let S = c.before.before.before in
     (l.invariant.1.size, omega (arith, groups S.args.w l.i S.args.n (search rules), S.requires.1), S.requires.3))

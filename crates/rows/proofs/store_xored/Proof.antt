@@ -40,7 +40,7 @@ store_xored_spec = tie.close (next16 (tie.spec
     xored-row a.a.now a.b.now from l.i p.result high.result low.result (omega arith)
     (below_each 256 from (λ i. (known i).fits)) p.ensures (rw e at r) in
     let stored =
-    block-stored a.out-1.now l.out at_first.put_half.new.0 at_second.put_half-in-loop-i.new.0 _ _
+    block-stored a.out.now l.out at_first.put_half.new.out at_second.put_half-in-loop-i.new.out _ _
     (xored_row a.a.now a.b.now from) l.i
     (λ i h. length_xored_row from a.m at_loop.requires.0.1 a.a.now a.b.now i (omega arith))
     xored l.invariant.2 at_first.put_half.ensures at_second.put_half-in-loop-i.ensures in
@@ -52,5 +52,5 @@ store_xored_spec = tie.close (next16 (tie.spec
     let a = S.args in
     let e : l.i ≡ a.m = omega arith in
     λ f R.
-    all_stored a.with.now a.m S.requires.0.1 a.a.now a.b.now a.out-1.now l.out f R
+    all_stored a.with.now a.m S.requires.0.1 a.a.now a.b.now a.out.now l.out f R
     (rw e at l.invariant.2)))

@@ -9,11 +9,7 @@ encrypt_spec = tie.close (tie.spec
     (λ c. unfold cat in rw c.if-m-eq0.true refl) (λ c. search rules) (λ c. search rules) (λ c. search rules) (λ c. omega arith)
     (λ c. search rules) (λ c. search rules)
     (λ c. unfold encrypt_block in
-    let at_store = c.before.before in
-    let at-rounds = at_store.before.before.before in
-    let at-fours = at-rounds.before.before.before in
-    let at_load = at-fours.before in
-    let a = at_load.args in
-    at_store.store.ensures ∙ ap (λ (l : List _). over l (a.out-1.now)) (cat-same a.m _ _
-    (λ j h. ap unwords (at-rounds.all_rounds.ensures.0 j (lt_of_lt_of_le h at-fours.whole_fours-n.ensures.0)
-    ∙ ap (encrypt_words a.rk) (at_load.load.ensures.0 j h))))))
+    let a = c.args in
+    c.store.ensures ∙ ap (λ (l : List _). over l (a.out.now)) (cat-same a.m _ _
+    (λ j h. ap unwords (c.all_rounds.ensures.0 j (lt_of_lt_of_le h c.whole_fours-n.ensures.0)
+    ∙ ap (encrypt_words a.rk) (c.load.ensures.0 j h))))))

@@ -13,9 +13,8 @@ all_rounds_spec = tie.close (next8 (tie.spec
     (λ a₀ b₀ c₀ d₀ s₀ n rk i₀ a b c d s i. 32 - i) (λ c. search rules)) (omega arith) (λ c. search rules) (λ c. search rules)
     (λ c. search rules) (λ c. search rules) (λ c. search rules) (λ c. search rules)
     (λ c.
-    let at_loop = c.before.before.before.before.before.before.before in
-    let l = at_loop.loop-i in
-    let rk = at_loop.args.rk in
+    let l = c.loop-i in
+    let rk = c.args.rk in
     let n : length rk ≡ 32 = search rules in
     let r = c.four.ensures in (
       omega arith,

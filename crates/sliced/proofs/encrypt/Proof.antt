@@ -9,11 +9,9 @@ encrypt_spec = tie.close (tie.spec
     (λ c. search rules) (λ c. search rules) (λ c. search rules)
     (λ c.
     let R = c.rounds_to_rows in
-    let at_second = c.before.before.before.before.before.before.before in
-    let F = at_second.enter-2 in
-    let at_first = at_second.before.before.before.before in
-    let E = at_first.enter in
-    let a = at_first.args in (
+    let F = c.enter-2 in
+    let E = c.enter in
+    let a = c.args in (
       λ m f h G.
           R.ensures.0 m f h
           (rows_in_lanes a.a.now a.b.now _ _ _ _ E.ensures.0 F.ensures.0 m f (omega arith) G),

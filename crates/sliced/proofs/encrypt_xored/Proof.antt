@@ -7,7 +7,4 @@ pub encrypt_xored_spec : {M : Type 1} → statement M
 encrypt_xored_spec = tie.close (tie.spec
     (λ c. search rules) (λ c. search rules) (λ c. search rules) (λ c. search rules) (λ c. search rules)
     (λ c. unfold encrypt_block in
-    let at_store = c.before.before in
-    let at-encrypt = at_store.before.before.before.before in
-    let at_load = at-encrypt.before.before.before.before in
-    at_store.store_xored.ensures _ (at-encrypt.encrypt.ensures.0 _ _ (omega arith) at_load.load.ensures)))
+    c.store_xored.ensures _ (c.encrypt.ensures.0 _ _ (omega arith) c.load.ensures)))

@@ -9,17 +9,13 @@ pub four_spec : {M : Type 1} → statement M
 four_spec = tie.close (tie.spec
     (λ c. search rules) (λ c. search rules) (λ c. search rules)
     (λ c.
-    let at_second = c.before.before.before.before.before.before.before.before.before.before.before in
-    let P = at_second.requires.1 in
+    let P = c.requires.1 in
     omega (arith, P))
     (λ c.
-    let at-third = c.before.before.before.before.before.before in
-    let at_second = at-third.before.before.before.before.before.before in
-    let at_first = at_second.before.before.before.before.before.before in
-    let a = at_first.args in
-    let r = at_first.round in
-    let q = at_second.round-2 in
-    let t = at-third.round-3 in
+    let a = c.args in
+    let r = c.round in
+    let q = c.round-2 in
+    let t = c.round-3 in
     let u = c.round-4 in (
       λ e h g.
           four-done _ _ _ _ _ _ _ _ a.k a.l a.m a.o e

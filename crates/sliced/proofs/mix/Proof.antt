@@ -14,5 +14,5 @@ mix_spec = tie.close (next16 (tie.spec
     let l = c.loop-i in
     let a = c.args in
     let i = l.invariant in
-    (omega arith, search rules, λ f n h g. mixed-next f n a.a-1.now a.s.now h g l.i l.a (search rules) i.1 (i.2 f n h g)))
+    (omega arith, search rules, λ f n h g. mixed-next f n a.a.now a.s.now h g l.i l.a (search rules) i.1 (i.2 f n h g)))
     (λ c. let l = c.loop-i in (λ f n h g p k hp. (l.invariant.2 f n h g).0 p k (omega arith), l.invariant.1)))

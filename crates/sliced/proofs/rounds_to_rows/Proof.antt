@@ -10,13 +10,10 @@ rounds_to_rows_spec = tie.close (tie.spec
     (λ c. search rules) (λ c. search rules) (λ c. search rules)
     (λ c.
     let B = c.leave-2 in
-    let at-leave = c.before.before.before.before in
-    let A = at-leave.leave in
-    let at-rounds = at-leave.before.before.before.before in
-    let R = at-rounds.all_rounds in
-    let S = at-rounds.before.before.before.before.before.before in
-    let a = S.args in (
-      rows_encrypted a.rk _ _ a.x0.now a.x1.now a.x2.now a.x3.now _ _ _ _ a.n S.requires.0.0
+    let A = c.leave in
+    let R = c.all_rounds in
+    let a = c.args in (
+      rows_encrypted a.rk _ _ a.x0.now a.x1.now a.x2.now a.x3.now _ _ _ _ a.n c.requires.0.0
           A.ensures.0 B.ensures.0 A.ensures.1.1 B.ensures.1.1 R.ensures.0 A.ensures.1.0 B.ensures.1.0,
       record { size_a = A.ensures.1.0; size_b = B.ensures.1.0 },
     )))

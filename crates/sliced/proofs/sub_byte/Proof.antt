@@ -13,15 +13,14 @@ sub_byte_spec = tie.close (next16 (next16 (tie.spec
     (λ c. search rules) (λ c. search rules)) (omega arith)) (omega arith) (λ c. search rules)
     (λ c.
     let l = c.loop-j in
-    let S = c.before.before.before.before.before in
-    let a = S.args in
+    let a = c.args in
     let m = c.masks-m.result in
     let o = c.sbox-o.result in
     let g : SboxLanes (column a.x.now a.y.now a.z.now m (64 * a.b + l.j)) o =
     rw c.column_at.ensures at c.sbox-o.ensures in
-    let hj : l.j < 8 = omega (arith, S.requires.0) in
+    let hj : l.j < 8 = omega (arith, c.requires.0) in
     let next =
-    columns_next a.x.now a.y.now a.z.now m a.k a.n a.b l.j l.s o S.requires.0.0 hj l.invariant.1 l.invariant.0 g
+    columns_next a.x.now a.y.now a.z.now m a.k a.n a.b l.j l.s o c.requires.0.0 hj l.invariant.1 l.invariant.0 g
     l.invariant.2 in
     (simp length-set l.invariant.0, l.invariant.1, rw add-zero at next))
     (λ c. search (rules, columns_last)))

@@ -14,14 +14,12 @@ decreases_loop t rk kind on d out₀ s₀ at₀ out s at = length d - at
 
 loop_again : tie.Need-loop-at-preserved invariant_loop decreases_loop
 loop_again c =
-    let at-step = c.before.before in
-    let at_loop = at-step.before.before.before.before in
-    let a = at_loop.args in
-    let l = at_loop.loop-at in
+    let a = c.args in
+    let l = c.loop-at in
     let d = a.«data».now in
     let b = tailed l.at d in
     let full = stream-block a.kind a.rk (unwords l.s) (take 16 b) (length-take-le 16 b (omega (arith, length_tailed d l.at))) in
-    reached-next _ _ _ _ _ _ _ l.invariant _ _ (omega arith) (omega arith) full at-step.step-next.ensures.0 at-step.step-next.ensures.1
+    reached-next _ _ _ _ _ _ _ l.invariant _ _ (omega arith) (omega arith) full c.step-next.ensures.0 c.step-next.ensures.1
 
 returns : tie.Need-returns invariant_loop decreases_loop
 returns c =
@@ -31,7 +29,7 @@ returns c =
     ended a.kind a.rk l.invariant _ _ _ (omega arith) rested.0 rested.1
 
 pub one_by_one_spec : {M : Type 1} → statement M
-one_by_one_spec = tie.close (tie.spec invariant_loop decreases_loop (λ c. reached-first _ _ _ _) (λ c. omega arith) (λ c. omega arith) (λ c. omega arith)
-    (λ c. omega arith) (λ c. omega arith) (λ c. omega arith) (λ c. omega arith) (λ c. search rules) (λ c. omega arith) (λ c. omega arith)
-    loop_again (λ c. omega arith) (λ c. omega arith) (λ c. omega arith) (λ c. omega arith) (λ c. omega arith) (λ c. omega arith)
-    (λ c. search rules) (λ c. omega arith) returns)
+one_by_one_spec = tie.close (tie.spec invariant_loop decreases_loop (λ c. reached-first _ _ _ _) (λ c. omega arith) (λ c. omega arith)
+    (λ c. omega arith) (λ c. omega arith) (λ c. omega arith) (λ c. omega arith) (λ c. omega arith) (λ c. search rules)
+    (λ c. omega arith) (λ c. omega arith) loop_again (λ c. omega arith) (λ c. omega arith) (λ c. omega arith)
+    (λ c. omega arith) (λ c. omega arith) (λ c. omega arith) (λ c. search rules) (λ c. omega arith) returns)

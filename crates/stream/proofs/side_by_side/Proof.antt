@@ -6,5 +6,5 @@ use Rattle.stream.proofs.side_by_side.Tie as tie
 
 pub side_by_side_spec : {M : Type 1} → statement M
 side_by_side_spec = tie.close (tie.spec (λ c. search rules) (λ c e. untrue e) (λ c e. untrue e) (λ c. search rules) (λ c. search rules)
-    (λ c. search rules) (λ c. search rules) (λ c. search rules) (λ c e. untrue e) (λ c e. ap ahead c.enum_told-in-CfbDecrypt-1.given.1)
-    (λ c e. untrue e) (λ c e. ap ahead c.enum_told-in-Ctr-1.given.1) (λ c e. ap ahead c.enum_told-in-Gctr-1.given.1))
+    (λ c. search rules) (λ c. search rules) (λ c. search rules) (λ c e. untrue e) (λ c e. ap ahead c.in-CfbDecrypt.is)
+    (λ c e. untrue e) (λ c e. ap ahead c.in-Ctr.is) (λ c e. ap ahead c.in-Gctr.is))

@@ -5,6 +5,6 @@ use Rattle.stream.proofs.state_after.Tie as tie
 
 pub state_after_spec : {M : Type 1} → statement M
 state_after_spec = tie.close (tie.spec (λ c. search rules) (λ c. search rules) (λ c. search rules) (λ c. search rules)
-    (λ c. search rules) (λ c. search rules) (λ c. search rules) (λ c. rw c.enum_told-1.given.1) (λ c. rw c.enum_told-in-CfbDecrypt-1.given.1)
-    (λ c. rw c.enum_told-in-Ofb-1.given.1) (λ c. rw c.enum_told-in-Ctr-1.given.1 c.block_add_one.ensures.0)
-    (λ c. rw c.enum_told-in-Gctr-1.given.1 c.gcm_block_add_one.ensures.0))
+    (λ c. search rules) (λ c. search rules) (λ c. search rules) (λ c. rw c.in-CfbEncrypt.is) (λ c. rw c.in-CfbDecrypt.is)
+    (λ c. rw c.in-Ofb.is) (λ c. rw c.in-Ctr.is c.block_add_one.ensures.0)
+    (λ c. rw c.in-Gctr.is c.gcm_block_add_one.ensures.0))

@@ -7,26 +7,19 @@ use Rattle.stream.proofs.step.Tie as tie
 
 returns : tie.Need-returns
 returns c =
-    let at-put-block = c.before.before.before in
-    let at-xor = at-put-block.before.before in
-    let at_split = at-xor.before in
-    let at-encrypt = at_split.before in
-    let at-data = at-encrypt.before.before in
-    let S = at-data.before.before in
-    let a = S.args in
+    let a = c.args in
     let d = a.«data».now in
-    let state = S.well-formed.1.1.1.0 in
-    let four : length a.s ≡ 4 = search (rules, state) in
-    let fits : (i : ℕ) → Fits w32 (get_or a.s i 0) = λ i. search (rules, state) in
-    let small : (i : ℕ) → get_or d i 0 < 256 = λ i. omega (arith, at-data.shared_slice_known-2-1.given i) in
+    let four : length a.s ≡ 4 = search (rules, c.well_formed) in
+    let fits : (i : ℕ) → Fits w32 (get_or a.s i 0) = λ i. search (rules, c.well_formed) in
+    let small : (i : ℕ) → get_or d i 0 < 256 = λ i. omega (arith, c.shared_slice_known-2-1.given i) in
     let bytes = below_each 256 d small in
-    let read = unwords-front d S.requires.1.0 bytes in
+    let read = unwords-front d c.requires.1.0 bytes in
     let ciphered = encrypt-unwords a.rk a.s four (below_each (2 ^ 32) a.s (λ i. (fits i).fits)) in
-    let xored = rw ciphered at (front-xored d (encrypt_words a.rk a.s) S.requires.1.0 bytes (encrypt-four a.rk a.s)) in
-    let x = at-xor.block_xor-c.ensures in
-    let b = at_split.split_block-b.ensures in
-    let e = at-encrypt.encrypt-e.ensures in
-    (c.state_after.ensures ∙ rw (x, b, e, read, ciphered, xored), at-put-block.put_block.ensures ∙ rw (x, b, e, xored))
+    let xored = rw ciphered at (front-xored d (encrypt_words a.rk a.s) c.requires.1.0 bytes (encrypt-four a.rk a.s)) in
+    let x = c.block_xor-c.ensures in
+    let b = c.split_block-b.ensures in
+    let e = c.encrypt-e.ensures in
+    (c.state_after.ensures ∙ rw (x, b, e, read, ciphered, xored), c.put_block.ensures ∙ rw (x, b, e, xored))
 
 pub step_spec : {M : Type 1} → statement M
 step_spec = tie.close (tie.spec (λ c. search rules) (λ c. search rules) (λ c. search rules) (λ c. search rules)

@@ -6,10 +6,9 @@ use Rattle.stream.proofs.stream.Tie as tie
 
 returns : tie.Need-returns
 returns c =
-    let at-run = c.before.before.before.before.before.before.before.before in
-    let a = at-run.args in
-    onward a.kind a.rk at-run.run-begun.ensures _ _ _ _ c.finish.ensures
+    let a = c.args in
+    onward a.kind a.rk c.run-begun.ensures _ _ _ _ c.finish.ensures
 
 pub stream_spec : {M : Type 1} → statement M
 stream_spec = tie.close (tie.spec (λ c. search rules) (λ c. omega arith) (λ c. omega arith) (λ c. omega arith) (λ c. omega arith)
-    (λ c. omega arith) (λ c. omega arith) (λ c. (search rules, omega arith)) (λ c. omega arith) returns)
+    (λ c. omega arith) (λ c. omega arith) (λ c κs. (search rules, omega arith)) (λ c. omega arith) returns)

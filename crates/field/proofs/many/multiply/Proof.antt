@@ -10,29 +10,20 @@ multiply_spec =
     tie.close
     (tie.spec
     (λ c. search rules) (λ c. search (rules, lends_high)) (λ c. search (rules, lends_low)) (λ c. search (rules, lends_both))
-    (λ c.
-    let at_both = c.before.before.before.before.before.before.before.before in
-    let at_low = at_both.before.before.before.before.before in
-    let at_high = at_low.before.before.before.before in
-    let S = at_high.before.before.before.before.before.before.before in
-    let small = at_both.struct_known-1.given.0.fits in
-    let high = at_high.products64.ensures in
-    let low = at_low.products64-2.ensures in
-    let both = at_both.products64-3.ensures in (
-      (S.requires.0, λ g h. rw (high.0 g h) (clmul-lt 63 64 _ _ small)),
-      (high.1, high.2, low.1, low.2, both.1, both.2, S.requires.2, S.requires.3),
+    (λ c κs.
+    let high = c.products64.ensures in
+    let low = c.products64-2.ensures in
+    let both = c.products64-3.ensures in (
+      (c.requires.0, λ g h. rw (high.0 g h) (clmul-lt 63 64 _ _ (search rules))),
+      (high.1, high.2, low.1, low.2, both.1, both.2, c.requires.2, c.requires.3),
     ))
     (λ c.
-    let at_both = c.before.before.before.before.before.before.before.before.before in
-    let at_low = at_both.before.before.before.before.before in
-    let at_high = at_low.before.before.before.before in
-    let sum = at_high.sums-s.ensures in
-    let done = c.reduce_each.ensures in
-    let small = at_both.struct_known-1.given.1.0.fits in (
+    let sum = c.sums-s.ensures in
+    let done = c.reduce_each.ensures in (
       λ g h.
           reduced-product _ _ _ _ (done.0 g h)
-          (join_128 _ _ _ _ _ _ _ (sum.1 g h) small (at_high.products64.ensures.0 g h) (at_low.products64-2.ensures.0 g h)
-          (at_both.products64-3.ensures.0 g h ∙ rw (sum.0 g h))),
+          (join_128 _ _ _ _ _ _ _ (sum.1 g h) (search rules) (c.products64.ensures.0 g h) (c.products64-2.ensures.0 g h)
+          (c.products64-3.ensures.0 g h ∙ rw (sum.0 g h))),
       done.1,
       done.2,
     )))

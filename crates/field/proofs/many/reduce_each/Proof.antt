@@ -13,7 +13,7 @@ reduce_each_spec =
     (λ h1 h0 l1 l0 b1 b0 n high₀ low₀ g₀ high low g. n - g) (λ c. search rules) (λ c. search rules) (λ c. search rules) (λ c. search rules)
     (λ c. search rules) (λ c. search rules) (λ c. search rules) (λ c. search rules) (λ c. search rules) (λ c. search rules)
     (λ c. search rules) (λ c. search rules) (λ c. search rules)
-    (λ c.
+    (λ c κs.
     let in-loop = c.before.before.before.before.before.before in
     in-loop.requires.0.1 in-loop.loop-g.g in-loop.loop-g-test.true)
     (λ c. search rules) (λ c. search rules) (λ c. search rules) (λ c. search rules) (λ c. search rules) (λ c. search rules)

@@ -5,5 +5,5 @@ use Rattle.field.proofs.many.reduced.Statement.{statement}
 use Rattle.field.proofs.many.reduced.Tie as tie
 
 pub reduced_spec : {M : Type 1} → statement M
-reduced_spec = tie.close (tie.spec (λ c. search rules) (λ c. rw c.joined128-p.ensures.1 (top_half _ _ c.requires))
+reduced_spec = tie.close (tie.spec (λ c. search rules) (λ c κs. rw c.joined128-p.ensures.1 (top_half _ _ c.requires))
     (λ c. c.reduce.ensures ∙ ap (times_xs 127) c.joined128-p.ensures.0))

@@ -15,5 +15,5 @@ galois_hash_after_spec =
     let at_label = at_after.before in
     let S = at_label.before.before.before in
     let h = S.args.h in
-    half_auth _ _ _ _ _ _ (whole-lt h.high h.low (omega (arith, S.well-formed.0)) (omega (arith, S.well-formed.0))) S.requires.1
+    half_auth _ _ _ _ _ _ (whole-lt h.high h.low (omega (arith, S.well_formed.0)) (omega (arith, S.well_formed.0))) S.requires.1
     at_label.hash_blocks.ensures at_after.after-y.ensures c.absorb_lengths-end.ensures))

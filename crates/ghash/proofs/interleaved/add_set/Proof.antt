@@ -42,7 +42,7 @@ add_set_spec =
           (at-number.to_u128-b.ensures ∙ lent-number bytes k _ number at_split.split_block.ensures))
           l.invariant.3,
       one_more _ k
-          (rw (lane-same k u v l.high l.low ha hb) (whole-lt u v (omega (arith, c.add-z.type-inv)) (omega (arith, c.add-z.type-inv))))
+          (rw (lane-same k u v l.high l.low ha hb) (whole-lt u v (omega (arith, c.add-z.type_inv)) (omega (arith, c.add-z.type_inv))))
           (λ j h. rw (lane_other k u v l.high l.low ha hb j (λ e. omega arith)) (l.invariant.4 j h)),
       λ j h. lane_other k u v l.high l.low ha hb j (λ e. omega arith) ∙ l.invariant.5 j (omega arith),
     ))

@@ -1,6 +1,6 @@
 -- `luossavin::journals::keys_of` meets its contract. The loop's invariant: the records that are made, with those to come, are the
 -- host's. The measure is how many are to come.
-use Rattle.block.proofs.Base.{◌-◌, ◌≤◌, ◌∙◌, ◌≡◌, ap, refl, sym, List, map, arith, rules, length, length-map, length-set}
+use Rattle.block.proofs.Base.{◌-◌, ◌≤◌, ◌∙◌, ◌≡◌, ap, refl, sym, List, map, arith, rules, length, length-set}
 use Rattle.cipher_mode.specs.declared.Sm4Cipher.{Sm4Cipher}
 use Rattle.journal.specs.declared.keys.Keys.{Keys}
 use Rattle.luossavin.specs.Key.{cipher_in}
@@ -17,7 +17,7 @@ abbrev decreases_loop : tie.decreases-loop-i
 decreases_loop keys theirs ours₀ i₀ ours i = 8 - i
 
 eight : (S : tie.Start invariant_loop decreases_loop) → length S.args.keys.keys ≡ 8
-eight S = sym (length-map S.args.keys.keys _) ∙ S.well-formed.0.1.1.1.0.1.0.1
+eight S = S.well_formed.0.1.1.1.0.1.0.1
 
 loop_holds : tie.Need-loop-i-init invariant_loop decreases_loop
 loop_holds c = (omega arith, eight c.before.before.before, refl, refl)

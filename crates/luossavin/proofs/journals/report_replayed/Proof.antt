@@ -10,7 +10,7 @@ unfolding told_of
 returns c =
     let at-number = c.before in
     let x = at-number.args.replayed in
-    rw (at-number.number.ensures, mark-byte x.report.first-1.found)
+    rw (at-number.number.ensures, mark-byte x.report.first.found)
 
 pub report_replayed_spec : {M : Type 1} → statement M
 report_replayed_spec = tie.close (tie.spec (λ c. search rules) (λ c. search rules) returns)

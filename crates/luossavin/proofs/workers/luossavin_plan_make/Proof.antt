@@ -11,7 +11,7 @@ unfolding host_plan_make
 returns c =
     let made = c.make-planned in
     ap {B = Handed} (λ (h : Head). record { head = h; plan = made.result.plan })
-    (c.numbered.ensures ∙ ap {B = Head} refusal c.before.number_of_lem.ensures)
+    (c.numbered.ensures ∙ ap {B = Head} refusal c.number_of.ensures)
     ∙ ap {B = Handed} (λ (p : Planned). record { head = making_head p.making; plan = p.plan }) made.ensures
 
 pub luossavin_plan_make_spec : {M : Type 1} → statement M

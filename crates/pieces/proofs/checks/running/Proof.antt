@@ -6,5 +6,5 @@ use Rattle.pieces.proofs.checks.running.Tie as tie
 pub running_spec : {M : Type 1} → statement M
 unfolding running
 running_spec = tie.close (tie.spec (λ c. search rules) (λ c. search rules) (λ c. search rules) (λ c. search rules) (λ c. search rules)
-    (λ c. let at-text = c.before.before.before in rw (c.and_then.ensures, c.refuse.ensures)
-    (rw (c.standing.ensures, at-text.refuse-text.ensures, at-text.past_limit.ensures))))
+    (λ c. rw (c.and_then.ensures, c.refuse.ensures)
+    (rw (c.standing.ensures, c.refuse-text.ensures, c.past_limit.ensures))))

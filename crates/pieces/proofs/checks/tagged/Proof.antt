@@ -7,6 +7,5 @@ pub tagged_spec : {M : Type 1} → statement M
 unfolding tagged
 tagged_spec = tie.close (tie.spec (λ c. search rules) (λ c. search rules) (λ c. search rules) (λ c. search rules) (λ c. search rules)
     (λ c. search rules)
-    (λ c. let at_tag = c.before.before in
-    let missing : 16 - at_tag.least.result ≡ 16 - at_tag.args.tag = omega arith in
-    rw (c.and_then.ensures, c.running.ensures, at_tag.refuse-whole.ensures, missing)))
+    (λ c. let missing : 16 - c.least.result ≡ 16 - c.args.tag = omega arith in
+    rw (c.and_then.ensures, c.running.ensures, c.refuse-whole.ensures, missing)))

@@ -5,32 +5,25 @@ use Rattle.pieces.proofs.KeyStream.{flow_start}
 use Rattle.pieces.proofs.ctr.start.Statement.{statement}
 use Rattle.pieces.proofs.ctr.start.Tie as tie
 
-passed : (x : tie.In_default) → length (x.args.iv.now) ≡ 16
-passed x =
-    sixteen _ (key-and-iv_passed _ _ _ _ _ (sym x.key_and_iv-checked.ensures ∙ x.enum_told-1.given.1)).iv-size
-
 returns_2 : tie.Need-returns
 unfolding ctr_start ctr_after
 returns_2 c =
-    let at-begin = c.before.before in
-    let at_split = at-begin.before in
-    let told = at_split.before.before.before.before.before.before in
-    let at-check = told.before.before in
-    let at-number = at-check.before in
-    let a = at-number.args in
+    let a = c.args in
     let iv = a.iv.now in
-    let small : (i : ℕ) → get_or iv i 0 < 256 = λ i. omega (arith, at-number.shared_slice_known-1.given i) in
-    let counter = spelled iv _ (passed told) small at_split.split_block.ensures in
-    rw (← at-check.key_and_iv-checked.ensures, told.enum_told-1.given.1, c.done.ensures, at-begin.begin-flow.ensures, counter)
-    (rw (← flow_start CtrCounting a.cipher.rk-1 iv, at-number.number_in-key.ensures))
+    let passed : length iv ≡ 16 =
+    sixteen _ (key-and-iv_passed _ _ _ _ _ (sym c.key_and_iv-checked.ensures ∙ c.in_default.is)).iv-size in
+    let small : (i : ℕ) → get_or iv i 0 < 256 = λ i. omega (arith, c.shared_slice_known-1.given i) in
+    let counter = spelled iv _ passed small c.split_block.ensures in
+    rw (← c.key_and_iv-checked.ensures, c.in_default.is, c.done.ensures, c.begin-flow.ensures, counter)
+    (rw (← flow_start CtrCounting a.cipher.rk iv, c.number_in-key.ensures))
 
 pub start_spec : {M : Type 1} → statement M
 unfolding ctr_start
 start_spec = tie.close (tie.spec (λ c. search rules) (λ c. search rules) (λ c. search rules) (λ c. search rules) (λ c. search rules)
     (λ c. search rules)
-    (λ c. let told = c.before.before.before.before in
-    rw (← told.key_and_iv-checked.ensures, told.checked-1.given.1, c.refused.ensures, c.shut.ensures)
-    (rw (c.number.ensures, told.number_in-key.ensures)))
+    (λ c. rw (← c.key_and_iv-checked.ensures, c.in-Refused.is, c.refused.ensures, c.shut.ensures)
+    (rw (c.number.ensures, c.number_in-key.ensures)))
     (λ c. search rules) (λ c. search rules) (λ c. search rules) (λ c. search rules) (λ c. search rules)
-    (λ c. let n = passed c.before.before.before.before.before in omega arith) (λ c. search rules)
+    (λ c. let n : length c.args.iv.now ≡ 16 =
+    sixteen _ (key-and-iv_passed _ _ _ _ _ (sym c.key_and_iv-checked.ensures ∙ c.in_default.is)).iv-size in omega arith) (λ c. search rules)
     (λ c. search rules) returns_2)

@@ -5,5 +5,5 @@ use Rattle.pieces.proofs.flow.next_counter.Tie as tie
 
 pub next_counter_spec : {M : Type 1} → statement M
 next_counter_spec = tie.close (tie.spec (λ c. search rules) (λ c. search rules) (λ c. search rules) (λ c. search rules)
-    (λ c. rw c.enum_told-1.given.1 c.block_add_one.ensures.0)
-    (λ c. rw c.enum_told-in-Gcm-1.given.1 c.gcm_block_add_one.ensures.0))
+    (λ c. rw c.in-Ctr.is c.block_add_one.ensures.0)
+    (λ c. rw c.in-Gcm.is c.gcm_block_add_one.ensures.0))

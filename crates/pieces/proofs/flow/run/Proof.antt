@@ -7,34 +7,27 @@ use Rattle.pieces.proofs.KeyStream.{text-short}
 use Rattle.pieces.proofs.flow.run.Statement.{statement}
 use Rattle.pieces.proofs.flow.run.Tie as tie
 
-pad-length : (s : tie.Start) → length s.args.flow.pad-1 ≡ 16
-pad-length s = search rules
-
 returns : tie.Need-returns-then-data-m
 unfolding flow_next
 returns c =
-    let at-pad = c.before.before.before in
-    let a = at-pad.args in
+    let a = c.args in
     let short = text-short a.counting a.rk a.flow a.p (a.«data».now) c.if-data-m.true in
-    rw (lt-ltb _ _ c.if-data-m.true, at-pad.xor_pad.ensures, short) (refl, refl)
+    rw (lt-ltb _ _ c.if-data-m.true, c.xor_pad.ensures, short) (refl, refl)
 
 returns_2 : tie.Need-returns
 unfolding flow_next flow_text
 returns_2 c =
-    let at_Onward = c.before.before in
-    let at-else = at_Onward.before.before.before.before in
-    let at-pad = at-else.before.before.before in
-    let S = at-pad.before.before.before.before.before.before in
-    let a = S.args in
+    let a = c.args in
     let d = a.«data».now in
-    let begun = drop a.p a.flow.pad-1 in
-    let sixteen = pad-length S in
-    let left = length-drop a.p a.flow.pad-1 in
+    let begun = drop a.p a.flow.pad in
+    let sixteen : length a.flow.pad ≡ 16 = search rules in
+    let left = length-drop a.p a.flow.pad in
     let ended : length (xors d begun) ≡ 16 - a.p = length_both d begun ∙ omega arith in
-    let onward = rw (tail_is d (16 - a.p)) at at_Onward.onward.ensures in
-    let written = at-pad.xor_pad.new.1.1.1.0 in
-    let behind = over-behind (xors d begun) _ (a.out-1.now) written _ _ ended at-pad.xor_pad.ensures onward.1 in
-    (rw (le-ltb _ _ at-else.if-data-m.false) onward.0, behind)
+    let onward = rw (tail_is d (16 - a.p)) at c.onward.ensures.0 in
+    let after = rw (tail_is d (16 - a.p)) at c.onward.ensures.1 in
+    let written = c.xor_pad.new.out in
+    let behind = over-behind (xors d begun) _ (a.out.now) written _ _ ended c.xor_pad.ensures after in
+    (rw (le-ltb _ _ c.if-data-m.false) onward, behind)
 
 pub run_spec : {M : Type 1} → statement M
 run_spec = tie.close (tie.spec (λ c. search rules) (λ c. search rules) (λ c. search rules) returns (λ c. search rules) (λ c. search rules)

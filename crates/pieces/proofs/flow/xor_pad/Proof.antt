@@ -14,21 +14,19 @@ decreases_loop p d out₀ pad n i₀ out i = n - i
 
 loop_again : tie.Need-loop-i-preserved invariant_loop decreases_loop
 loop_again c =
-    let at_loop = c.before.before in
-    let a = at_loop.args in
-    let sixteen : length a.t1 ≡ 16 = search rules in (
+    let a = c.args in
+    let sixteen : length a.pad ≡ 16 = search rules in (
       omega arith,
       simp length-set (omega arith),
-      pad_turn (a.«data».now) a.t1 (a.out.now) _ a.p _ at_loop.loop-i.invariant.2 (omega arith) (omega arith) (omega arith),
+      pad_turn (a.«data».now) a.pad (a.out.now) _ a.p _ c.loop-i.invariant.2 (omega arith) (omega arith) (omega arith),
     )
 
 returns : tie.Need-returns invariant_loop decreases_loop
 returns c =
-    let at_loop = c.before in
-    let a = at_loop.args in
-    let sixteen : length a.t1 ≡ 16 = search rules in
-    let l = at_loop.loop-i in
-    pad-reached (a.«data».now) a.t1 (a.out.now) l.out a.p l.i l.invariant.2 (omega arith)
+    let a = c.args in
+    let sixteen : length a.pad ≡ 16 = search rules in
+    let l = c.loop-i in
+    pad-reached (a.«data».now) a.pad (a.out.now) l.out a.p l.i l.invariant.2 (omega arith)
 
 pub xor_pad_spec : {M : Type 1} → statement M
 xor_pad_spec = tie.close (tie.spec invariant_loop decreases_loop (λ c. omega arith) (λ c. search rules) (λ c. (omega arith, refl, refl))

@@ -7,7 +7,6 @@ use Rattle.pieces.proofs.hashing.begin.Tie as tie
 pub begin_spec : {M : Type 1} → statement M
 unfolding hash_of filled_up
 begin_spec = tie.close (tie.spec (λ c. search rules) (λ c. search rules) (λ c. search rules) (λ c. search rules)
-    (λ c. let at_label = c.before.before.before in
-    let new = at_label.new-start.ensures in
-    rw (c.bytes_of.ensures, c.bytes_of-2.ensures, at_label.absorb_all-labelled.ensures.hash, new.0, new.1)
+    (λ c. let new = c.new-start.ensures in
+    rw (c.bytes_of.ensures, c.bytes_of-2.ensures, c.absorb_all-labelled.ensures.hash, new.0, new.1)
     (held_within _ _ [] (omega arith) (length-bytes_of 16 _) (bytes_of-bytes 16 _))))

@@ -10,26 +10,20 @@ use Rattle.pieces.proofs.seal.start.Tie as tie
 returns_2 : tie.Need-returns
 unfolding seal_start seal_after
 returns_2 c =
-    let at_next = c.before.before.before in
-    let at-begin = at_next.before.before.before.before in
-    let told = at-begin.before.before.before.before.before.before in
-    let at-check = told.before.before in
-    let a = at-check.args in
-    let j = J0 a.cipher.rk-1 (a.iv.now) in
-    let begun = at-begin.begin-begun.ensures in
-    rw (← at-check.gcm_start-checked.ensures, told.enum_told-1.given.1, c.done.ensures, c.begin.ensures)
-    (rw (at_next.gcm_block_add_one.ensures.0, begun.0, begun.1.0, begun.1.1.0, begun.1.1.1)
-    (rw (← flow_start GcmCounting a.cipher.rk-1 (gcm_next j), no_text a.cipher.rk-1 j, at-check.number_in-key.ensures)))
+    let a = c.args in
+    let j = J0 a.cipher.rk (a.iv.now) in
+    let begun = c.begin-begun.ensures in
+    rw (← c.gcm_start-checked.ensures, c.in_default.is, c.done.ensures, c.begin.ensures)
+    (rw (c.gcm_block_add_one.ensures.0, begun.0, begun.1.0, begun.1.1.0, begun.1.1.1)
+    (rw (← flow_start GcmCounting a.cipher.rk (gcm_next j), no_text a.cipher.rk j, c.number_in-key.ensures)))
 
 pub start_spec : {M : Type 1} → statement M
 unfolding seal_start
 start_spec = tie.close (tie.spec (λ c. search rules) (λ c. search rules) (λ c. search rules) (λ c. search rules) (λ c. search rules)
     (λ c. search rules)
-    (λ c. let told = c.before.before.before.before in
-    rw (← told.gcm_start-checked.ensures, told.checked-1.given.1, c.refused.ensures, c.shut.ensures)
-    (rw (c.number.ensures, told.number_in-key.ensures)))
+    (λ c. rw (← c.gcm_start-checked.ensures, c.in-Refused.is, c.refused.ensures, c.shut.ensures)
+    (rw (c.number.ensures, c.number_in-key.ensures)))
     (λ c. search rules) (λ c. search rules) (λ c. search rules) (λ c. search rules) (λ c. search rules)
-    (λ c. let told = c.before.before.before.before.before in
-    let iv = (starting_passed _ _ _ _ _ (sym told.gcm_start-checked.ensures ∙ told.enum_told-1.given.1)).taken in
+    (λ c _. let iv = (starting_passed _ _ _ _ _ (sym c.gcm_start-checked.ensures ∙ c.in_default.is)).taken in
     (c.lent-lent.ensures.0, iv_twelve_or_sixteen _ iv))
     (λ c. search rules) (λ c. search rules) (λ c. search rules) returns_2)

@@ -6,12 +6,11 @@ use Rattle.pieces.proofs.tagging.begin.Tie as tie
 
 returns : tie.Need-returns
 returns c =
-    let at-counter = c.before.before in
-    let w = at-counter.first_counter_lem.result in
+    let w = c.first_counter-j0.result in
     let word : Fits w32 (get_or w 3 0) = search rules in
-    rw (← last-four w word.fits, c.begin.ensures, c.ciphered.ensures, at-counter.first_counter_lem.ensures)
-    (rw at-counter.hash_key-h.ensures (refl, (refl, (refl, refl))))
+    rw (← last-four w word.fits, c.begin.ensures, c.ciphered.ensures, c.first_counter-j0.ensures)
+    (rw c.hash_key-h.ensures (refl, (refl, (refl, refl))))
 
 pub begin_spec : {M : Type 1} → statement M
-begin_spec = tie.close (tie.spec (λ c. search rules) (λ c. c.requires.1) (λ c. search rules)
+begin_spec = tie.close (tie.spec (λ c. search rules) (λ c _. c.requires.1) (λ c. search rules)
     (λ c. search rules) (λ c. search rules) returns)

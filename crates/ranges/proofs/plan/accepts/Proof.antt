@@ -1,7 +1,7 @@
 -- `plan::accepts` meets its contract. The loop's invariant: the pieces so far reach `at`, which is not past `n`, and whether those to
 -- come follow one another from there decides. The measure is how many are to come.
-use Rattle.ranges.proofs.Names.{◌+◌, ◌-◌, ◌∙◌, ◌≡◌, ◌≤◌, accepts, arith, cond, false, get_or, le-leb, length, lt-leb, rules, not-false}
-use Rattle.ranges.proofs.Names.{not-true, refl, sym, true}
+use Rattle.ranges.proofs.Names.{◌+◌, ◌-◌, ◌∙◌, ◌≡◌, ◌≤◌, accepts, arith, cond, false, get_or, le-leb, length, lt-leb, rules}
+use Rattle.ranges.proofs.Names.{refl, sym, true}
 use Rattle.ranges.proofs.Following.{follows_from, tested, piece-fits, ends}
 use Rattle.ranges.proofs.plan.accepts.Statement.{statement}
 use Rattle.ranges.proofs.plan.accepts.Tie as tie
@@ -16,54 +16,47 @@ invariant_loop n count starts lengths at₀ i₀ at i =
 abbrev decreases_loop : tie.decreases-loop-i
 decreases_loop n count starts lengths at₀ i₀ at i = count - i
 
-sixty_four : (s : tie.Start invariant_loop decreases_loop) → (length s.args.plan.starts-1 ≡ 64) × (length s.args.plan.lengths-1 ≡ 64)
-sixty_four s = (search rules, search rules)
-
 -- the test of the piece at this turn decides, and one that it lets through lies within n
 turn : (x : tie.After-is_piece invariant_loop decreases_loop)
     → let l = x.loop-i in
     let a = x.args in
     let p = a.plan in
-    let end = l.at + get_or p.lengths-1 l.i 0 in
-    (cond x.is_piece.result (follows_from p.starts-1 p.lengths-1 p.count a.n (l.i + 1) end) false
-    ≡ follows_from p.starts-1 p.lengths-1 p.count a.n 0 0)
+    let end = l.at + get_or p.lengths l.i 0 in
+    (cond x.is_piece.result (follows_from p.starts p.lengths p.count a.n (l.i + 1) end) false
+    ≡ follows_from p.starts p.lengths p.count a.n 0 0)
     × (x.is_piece.result ≡ true → end ≤ a.n)
 turn x =
     let l = x.loop-i in
-    let S = x.before.before.before.before.before.before in
-    let p = S.args.plan in
-    let n = S.args.n in
-    let k = sixty_four S in
-    let starts : p.count ≤ length p.starts-1 = omega (arith, k.0) in
-    let lengths : p.count ≤ length p.lengths-1 = omega (arith, k.1) in
+    let p = x.args.plan in
+    let n = x.args.n in
+    let k : (length p.starts ≡ 64) × (length p.lengths ≡ 64) = (search rules, search rules) in
+    let starts : p.count ≤ length p.starts = omega (arith, k.0) in
+    let lengths : p.count ≤ length p.lengths = omega (arith, k.1) in
     let is = x.is_piece.ensures in (
-      rw is (sym (tested p.starts-1 p.lengths-1 p.count l.i l.at n starts lengths (omega arith) (omega arith)) ∙ l.invariant.3),
-      λ e. piece-fits p.starts-1 p.lengths-1 p.count l.i l.at n starts lengths (omega arith) (omega arith) (sym is ∙ e),
+      rw is (sym (tested p.starts p.lengths p.count l.i l.at n starts lengths (omega arith) (omega arith)) ∙ l.invariant.3),
+      λ e. piece-fits p.starts p.lengths p.count l.i l.at n starts lengths (omega arith) (omega arith) (sym is ∙ e),
     )
-
-passed : (x : tie.Else-not-is_piece invariant_loop decreases_loop) → x.is_piece.result ≡ true
-passed x = not-false x.is_piece.result x.if-not-is_piece.false
 
 returns_2 : tie.Need-returns-then-not-is_piece invariant_loop decreases_loop
 unfolding accepts
 returns_2 c =
     let p = c.args.plan in
     rw (le-leb p.count 64 c.loop-i.invariant.0, ← (turn c.before).0)
-    (rw (not-true c.is_piece.result c.if-not-is_piece.true))
+    (rw c.if-not-is_piece.true)
 
 loop_again : tie.Need-loop-i-preserved invariant_loop decreases_loop
 loop_again c =
     let inv = c.loop-i.invariant in
     let on = turn c.before in
-    (inv.0, on.1 (passed c), omega arith, rw (passed c) at on.0)
+    (inv.0, on.1 c.if-not-is_piece.false, omega arith, rw c.if-not-is_piece.false at on.0)
 
 returns_3 : tie.Need-returns invariant_loop decreases_loop
 unfolding accepts
 returns_3 c =
     let l = c.loop-i in
-    let S = c.before.before.before.before.before in
-    let p = S.args.plan in
-    let end = ends p.starts-1 p.lengths-1 p.count l.i l.at _ (omega (arith, (sixty_four S).0)) (omega arith) in
+    let p = c.args.plan in
+    let k : length p.starts ≡ 64 = search rules in
+    let end = ends p.starts p.lengths p.count l.i l.at _ (omega arith) (omega arith) in
     rw (le-leb p.count 64 l.invariant.0) (sym end ∙ l.invariant.3)
 
 pub accepts_spec : {M : Type 1} → statement M
@@ -71,4 +64,5 @@ unfolding accepts
 accepts_spec = tie.close (tie.spec invariant_loop decreases_loop (λ c. rw (lt-leb _ _ c.if-count-gt-MOST.true))
     (λ c. (omega arith, omega arith, omega arith, refl)) (λ c. omega arith) (λ c. omega arith) (λ c. omega arith) (λ c. omega arith)
     (λ c. omega arith) (λ c. omega arith) (λ c. search rules) returns_2
-    (λ c. record { fits = omega (arith, (turn c.before).1 (passed c)) }) (λ c. omega arith) (λ c. omega arith) loop_again returns_3)
+    (λ c. record { fits = omega (arith, (turn c.before).1 c.if-not-is_piece.false) }) (λ c. omega arith) (λ c. omega arith)
+    loop_again returns_3)

@@ -7,19 +7,14 @@ use Rattle.ranges.proofs.range.put_stretch.Tie as tie
 
 returns : tie.Need-returns
 returns c =
-    let at-run = c.before.before in
-    let at-begin = at-run.before.before in
-    let at_split = at-begin.before.before in
-    let at-iv = at_split.before.before.before in
-    let S = at-iv.before.before in
-    let a = S.args in
+    let a = c.args in
     let iv = a.iv.now in
-    let small : (i : ℕ) → get_or iv i 0 < 256 = λ i. omega (arith, at-iv.shared_slice_known-2-1.given i) in
-    let is_iv = spelled iv _ S.pre.1.0 small at_split.split_block.ensures in
-    let stretched = jumped a.rk iv (a.«data».now) a.offset S.pre.1.0 (below_each 256 iv small) in
-    rw (at-run.run.ensures.1, at-begin.begin-begun.ensures, at-begin.jump-first.ensures, is_iv, stretched)
+    let small : (i : ℕ) → get_or iv i 0 < 256 = λ i. omega (arith, c.shared_slice_known-2-1.given i) in
+    let is_iv = spelled iv _ c.requires.1.0 small c.split_block.ensures in
+    let stretched = jumped a.rk iv (a.«data».now) a.offset c.requires.1.0 (below_each 256 iv small) in
+    rw (c.run.ensures.1, c.begin-begun.ensures, c.jump-first.ensures, is_iv, stretched)
 
 pub put_stretch_spec : {M : Type 1} → statement M
 put_stretch_spec = tie.close (tie.spec (λ c. search rules) (λ c. search rules) (λ c. search rules)
-    (λ c. let S = c.before.before.before.before.before.before.before.before in (S.pre.0, (mod-lt _ (lit< tt), S.pre.1.1)))
+    (λ c _. (c.requires.0, (mod-lt _ (lit< tt), c.requires.1.1)))
     (λ c. search rules) returns)

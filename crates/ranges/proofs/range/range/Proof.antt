@@ -11,27 +11,24 @@ checks : (x : tie.After-and_then-checked)
     → let a = x.args in
     x.and_then-checked.result
     ≡ range_check a.cipher.answer a.cipher.retired a.direction (length (a.iv.now)) a.offset (length (a.«data».now))
-    (length (a.out-1.now))
+    (length (a.out.now))
 unfolding range_check
 checks x = rw (x.and_then-checked.ensures, x.refuse-room.ensures, x.reach-reached.ensures)
 
 returns_2 : tie.Need-returns
 unfolding range_call
 returns_2 c =
-    let at-work = c.before.before.before in
-    let told = at-work.before.before.before in
-    let at-number = told.before.before.before.before.before in
-    let a = at-number.args in
-    rw (← checks told.before.before, told.enum_told-1.given.1, c.done.ensures, at-work.stretch_by.ensures)
-    (rw (length-stretch a.cipher.rk-1 (a.iv.now) a.offset (a.«data».now), at-number.number_in-key.ensures))
+    let a = c.args in
+    rw (← checks c.before.before.before.before.before.before.before, c.in_default.is, c.done.ensures, c.stretch_by.ensures)
+    (rw (length-stretch a.cipher.rk (a.iv.now) a.offset (a.«data».now), c.number_in-key.ensures))
 
 pub range_spec : {M : Type 1} → statement M
 unfolding range_call
 range_spec = tie.close (tie.spec (λ c. search rules) (λ c. search rules) (λ c. search rules) (λ c. search rules) (λ c. search rules)
     (λ c. search rules)
-    (λ c. let told = c.before.before in rw (← checks told.before.before, told.checked-1.given.1, c.refused.ensures)
-    (rw told.number_in-key.ensures))
+    (λ c. rw (← checks c.before.before, c.in-Refused.is, c.refused.ensures)
+    (rw c.number_in-key.ensures))
     (λ c. search rules)
-    (λ c. let told = c.before.before in range_passed _ _ _ _ _ _ _ (sym (checks told.before.before) ∙ told.enum_told-1.given.1))
+    (λ c _. range_passed _ _ _ _ _ _ _ (sym (checks c.before.before.before) ∙ c.in_default.is))
     (λ c. search rules)
     (λ c. search rules) returns_2)

@@ -6,5 +6,5 @@ use Rattle.ranges.proofs.range.reach.Tie as tie
 pub reach_spec : {M : Type 1} → statement M
 unfolding reach_check
 reach_spec = tie.close (tie.spec (λ c. search rules) (λ c. search rules) (λ c. search rules) (λ c. search rules)
-    (λ c. let at-past = c.before.before in rw (c.and_then.ensures, c.refuse.ensures, at-past.past_limit-past.ensures)
-    (rw at-past.key_and_iv-first.ensures)))
+    (λ c. rw (c.and_then.ensures, c.refuse.ensures, c.past_limit-past.ensures)
+    (rw c.key_and_iv-first.ensures)))

@@ -15,25 +15,18 @@ add_word_spec = tie.close (tie.spec
     (λ x₁ n w m y₁ i₁ x y i. 32 - i) (λ c. search rules) (λ c. search (rules, rippled_first)) (λ c. search rules) (λ c. search rules)
     (λ c. search rules) (λ c. search rules) (λ c. search rules) (λ c. search rules)
     (λ c.
-    let at_row = c.before.before in
-    let at_loop = at_row.before.before.before.before in
-    let l = at_loop.loop-i in
-    let S = at_loop.before.before.before in
-    let a = S.args in
+    let l = c.loop-i in
     let R = c.add_row.ensures in
-    let n = S.requires.0 in
-    let next = rippled_next a.w l.i _ _ _ _ _ _ _ _ (λ k. l.invariant.3 l.i k (omega arith)) at_row.row.ensures l.invariant.4 R in
+    let n = c.requires.0 in
+    let next = rippled_next c.args.w l.i _ _ _ _ _ _ _ _ (λ k. l.invariant.3 l.i k (omega arith)) c.row.ensures l.invariant.4 R in
     (omega arith, R.size_x, R.size_y, l.invariant.3, next))
     (λ c. search rules) (λ c. search rules) (λ c. search rules) (λ c. search rules) (λ c. search rules) (λ c. search rules)
     (λ c.
-    let at-loop2 = c.before.before.before.before in
-    let l = at-loop2.loop-i-2 in
-    let at_loop = at-loop2.before.before in
-    let S = at_loop.before.before.before in
-    let a = S.args in
+    let l = c.loop-i-2 in
+    let a = c.args in
     let R = c.add_row-in-loop-i-2.ensures in
-    let P = l.invariant.5 a.x.now a.y at_loop.loop-i.invariant.4 in
-    let past = at-loop2.loop-i-test.false in (
+    let P = l.invariant.5 a.x.now a.y c.loop-i.invariant.4 in
+    let past = c.loop-i-test.false in (
       omega arith,
       omega arith,
       R.size_x,
@@ -41,12 +34,11 @@ add_word_spec = tie.close (tie.spec
       l.invariant.4,
       λ x₀ y₀ Q.
           rippled_next a.w l.i _ _ _ _ _ _ _ _ (λ k h. l.invariant.4 l.i k (omega arith) h)
-          (λ q h. blank_room 8 q ∙ sym (P.rest (8 * l.i + q) (omega arith) ∙ S.requires.2 (8 * l.i + q) (omega arith)))
+          (λ q h. blank_room 8 q ∙ sym (P.rest (8 * l.i + q) (omega arith) ∙ c.requires.2 (8 * l.i + q) (omega arith)))
           (l.invariant.5 x₀ y₀ Q) R,
     ))
     (λ c.
     let l = c.loop-i-2 in
-    let at_loop = c.before.before.before in
-    let a = at_loop.args in
+    let a = c.args in
     let h : a.w < 2 ^ 32 = search rules in
-    (rippled_last a.w l.i _ _ _ _ (omega arith) h (l.invariant.5 a.x.now a.y at_loop.loop-i.invariant.4), l.invariant.2)))
+    (rippled_last a.w l.i _ _ _ _ (omega arith) h (l.invariant.5 a.x.now a.y c.loop-i.invariant.4), l.invariant.2)))

@@ -9,16 +9,11 @@ pub encrypt_counters_spec : {M : Type 1} → statement M
 encrypt_counters_spec = tie.close (tie.spec
     (λ c. search rules) (λ c. search (rules, blank_room)) (λ c. search rules) (λ c. search rules) (λ c. search rules)
     (λ c. unfold encrypt_block in
-    let at_store = c.before.before in
-    let at-rounds = at_store.before.before.before.before in
-    let at_count = at-rounds.before.before.before.before.before.before.before in
-    let at-columns = at_count.before.before.before.before.before in
-    let S = at-columns.before.before.before in
-    let a = S.args in
+    let a = c.args in
     let f : ℕ → List ℕ = λ i. words (jumped a.wide (unwords a.c) i) in
-    let fits = at-columns.columns_of-n.ensures.0 in
-    at_store.store_xored.ensures _
-    (at-rounds.rounds_to_rows.ensures.0 a.m f (omega arith)
+    let fits = c.columns_of-n.ensures.0 in
+    c.store_xored.ensures _
+    (c.rounds_to_rows.ensures.0 a.m f (omega arith)
     (λ i h.
-    let p = number-place i (omega (arith, S.requires.0)) in
-    at_count.count.ensures.0 (place i) p.0 ∙ ap f p.1))))
+    let p = number-place i (omega (arith, c.requires.0)) in
+    c.count.ensures.0 (place i) p.0 ∙ ap f p.1))))

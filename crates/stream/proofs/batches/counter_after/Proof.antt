@@ -5,4 +5,4 @@ use Rattle.stream.proofs.batches.counter_after.Tie as tie
 
 pub counter_after_spec : {M : Type 1} → statement M
 counter_after_spec = tie.close (tie.spec (λ c. search rules) (λ c. rw c.if-wide.true c.jump.ensures) (λ c. search rules)
-    (λ c. search rules) (λ c. rw c.if-wide.false c.«gcm-jump».ensures))
+    (λ c. search rules) (λ c. rw c.if-wide.false c.gcm_jump.ensures))

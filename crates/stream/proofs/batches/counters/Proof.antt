@@ -13,16 +13,13 @@ decreases_loop rk wide d out₀ s₀ at₀ out s at = length d - at
 
 loop_again : tie.Need-loop-at-preserved invariant_loop decreases_loop
 loop_again c =
-    let at-batch = c.before.before.before in
-    let at_next = at-batch.before.before.before in
-    let at_loop = at_next.before.before in
-    let a = at_loop.args in
-    let l = at_loop.loop-at in
-    counted_on a.rk a.wide l.invariant at_next.next_batch-m.result _ _ (omega arith) (omega arith) (length-unwords l.s)
-    (unwords-bytes l.s) c.counter_after-next.ensures at-batch.encrypt_counters.ensures
+    let a = c.args in
+    let l = c.loop-at in
+    counted_on a.rk a.wide l.invariant c.next_batch-m.result _ _ (omega arith) (omega arith) (length-unwords l.s)
+    (unwords-bytes l.s) c.counter_after-next.ensures c.encrypt_counters.ensures
 
 pub counters_spec : {M : Type 1} → statement M
-counters_spec = tie.close (tie.spec invariant_loop decreases_loop (λ c. reached-first _ _ _ _) (λ c. omega arith) (λ c. omega arith) (λ c. omega arith)
-    (λ c. omega arith) (λ c. omega arith) (λ c. omega arith) (λ c. omega arith) (λ c. omega arith) (λ c. omega arith) (λ c. search rules)
-    (λ c. search rules) (λ c. omega arith) (λ c. omega arith) (λ c. omega arith) loop_again (λ c. omega arith)
+counters_spec = tie.close (tie.spec invariant_loop decreases_loop (λ c. reached-first _ _ _ _) (λ c. omega arith) (λ c. omega arith)
+    (λ c. omega arith) (λ c. omega arith) (λ c. omega arith) (λ c. omega arith) (λ c. omega arith) (λ c. omega arith) (λ c. omega arith)
+    (λ c. search rules) (λ c. search rules) (λ c. omega arith) (λ c. omega arith) (λ c. omega arith) loop_again (λ c. omega arith)
     (λ c. c.loop-at.invariant))

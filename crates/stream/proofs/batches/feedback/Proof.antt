@@ -14,20 +14,16 @@ decreases_loop t rk d out₀ at₀ out at = length d - at
 
 loop_again : tie.Need-loop-at-preserved invariant_loop decreases_loop
 loop_again c =
-    let at-xored = c.before.before in
-    let at_next = at-xored.before.before.before.before in
-    let l = at_next.loop-at in
-    fed_on _ (cfb_fed _) _ _ l.out _ l.at at_next.next_batch-m.result l.invariant (omega arith) (omega arith)
-    at-xored.encrypt_xored.ensures
+    let l = c.loop-at in
+    fed_on _ (cfb_fed _) _ _ l.out _ l.at c.next_batch-m.result l.invariant (omega arith) (omega arith)
+    c.encrypt_xored.ensures
 
 returns_2 : tie.Need-returns invariant_loop decreases_loop
 returns_2 c =
-    let at_loop = c.before.before in
-    let l = at_loop.loop-at in
-    let at-step = at_loop.before.before.before in
-    let iv = at-step.args.iv in
+    let l = c.loop-at in
+    let iv = c.args.iv in
     rw c.block_at.ensures (fed_reached _ (cfb_fed _) _ _ _ _ l.out l.at l.invariant (length-unwords iv) (omega arith) (omega arith)
-    at-step.step.ensures.1)
+    c.step.ensures.1)
 
 pub feedback_spec : {M : Type 1} → statement M
 feedback_spec = tie.close (tie.spec invariant_loop decreases_loop (λ c. reached-first _ _ _ _) (λ c. search rules)

@@ -6,10 +6,9 @@ use Rattle.stream.proofs.few.block_at.Tie as tie
 
 returns : tie.Need-returns
 returns c =
-    let known = c.before.before in
-    let a = known.args in
+    let a = c.args in
     let s = a.s.now in
-    let small : (i : ℕ) → get_or s i 0 < 256 = λ i. omega (arith, known.shared_slice_known-1.given i) in
+    let small : (i : ℕ) → get_or s i 0 < 256 = λ i. omega (arith, c.shared_slice_known-1.given i) in
     let bytes = below-drop 256 a.at s (below_each 256 s small) in
     ap unwords c.split_block.ensures ∙ rw (tail_is s a.at) (unwords-front _ (rw length-drop (omega arith)) bytes)
 

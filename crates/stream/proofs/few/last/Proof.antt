@@ -9,16 +9,15 @@ use Rattle.stream.proofs.few.last.Tie as tie
 
 returns : tie.Need-returns
 returns c =
-    let at-few = c.before.before.before.before.before.before.before.before.before in
-    let needed = at-few.pad_needed in
-    let a = at-few.args in
+    let needed = c.pad_needed in
+    let a = c.args in
     let d = a.«data».now in
     let m = length d / 16 in
     let h : 16 * m ≤ length d = omega arith in
-    let f = at-few.few-end in
+    let f = c.few-end in
     let x = f.ensures in
-    let done = few-reached a.kind a.rk (unwords a.iv) d m h (a.out-1.now) _ _ (omega arith) x.0 x.1.1 in
-    let pad : needed.result ≡ true → f.result.pad-1 ≡ encrypt_block a.rk (unwords f.result.state) =
+    let done = few-reached a.kind a.rk (unwords a.iv) d m h a.out.now _ _ (omega arith) x.0 x.1.1 in
+    let pad : needed.result ≡ true → f.result.pad ≡ encrypt_block a.rk (unwords f.result.state) =
     λ e. x.1.0 e ∙ ap (encrypt_block a.rk) (sym x.0) in
     let rest = rest-xored _ (tailed (16 * m) d) _ _ pad (λ e. omega (arith, length_tailed d (16 * m), needed.ensures.1 e)) in
     ended a.kind a.rk done _ _ _ (omega arith) (λ e. pad (needed.ensures.0 e)) (rw rest at c.xor_bytes.ensures)
@@ -26,6 +25,6 @@ returns c =
 pub last_spec : {M : Type 1} → statement M
 last_spec = tie.close (tie.spec (λ c. search rules) (λ c. search rules) (λ c. search rules) (λ c. search rules) (λ c. search rules)
     (λ c. search rules) (λ c. search rules) (λ c. search rules) (λ c. search rules) (λ c. search rules)
-    (λ c. let p : length c.few-end.result.pad-1 ≡ 16 = search rules in
+    (λ c κs. let p : length c.few-end.result.pad ≡ 16 = search rules in
     (omega arith, omega arith))
     (λ c. search rules) returns)

@@ -7,13 +7,13 @@ use Rattle.stream.proofs.few.lay.Tie as tie
 pub lay_spec : {M : Type 1} → statement M
 lay_spec = tie.close (tie.spec (λ c. search rules) (λ c. search rules) (λ c. search rules) (λ c. search rules) (λ c. search rules)
     (λ c. search rules) (λ c. search rules)
-    (λ c. search rules) (λ c. untrue (sym (ap ahead c.enum_told-1.given.1) ∙ c.requires.0))
+    (λ c. search rules) (λ c. untrue (sym (ap ahead c.in-CfbEncrypt.is) ∙ c.requires.0))
     (λ c. search rules)
-    (λ c. rw c.enum_told-in-CfbDecrypt-1.given.1
+    (λ c. rw c.in-CfbDecrypt.is
     (λ rk. laid_before rk _ _ _ _ _ (length-unwords _) (omega arith) c.lay_before.ensures))
-    (λ c. untrue (sym (ap ahead c.enum_told-in-Ofb-1.given.1) ∙ c.requires.0)) (λ c. search rules)
-    (λ c. rw c.enum_told-in-Ctr-1.given.1
+    (λ c. untrue (sym (ap ahead c.in-Ofb.is) ∙ c.requires.0)) (λ c. search rules)
+    (λ c. rw c.in-Ctr.is
     (λ rk. laid_counters true rk _ _ _ _ _ (length-unwords _) (unwords-bytes _) c.lay_counters.ensures))
     (λ c. search rules)
-    (λ c. rw c.enum_told-in-Gctr-1.given.1
+    (λ c. rw c.in-Gctr.is
     (λ rk. laid_counters false rk _ _ _ _ _ (length-unwords _) (unwords-bytes _) c.lay_counters-in-Gctr.ensures)))

@@ -14,13 +14,11 @@ decreases_loop wide c n out₀ i₀ out i = n - i
 
 loop_again : tie.Need-loop-i-preserved invariant_loop decreases_loop
 loop_again c =
-    let at-counter-after = c.before.before.before.before in
-    let at_loop = at-counter-after.before.before in
-    let l = at_loop.loop-i in
-    let a = at_loop.args in
-    let stored = block-stored a.out-1.now l.out _ (jumped a.wide (unwords a.c)) l.i
+    let l = c.loop-i in
+    let a = c.args in
+    let stored = block-stored a.out.now l.out _ (jumped a.wide (unwords a.c)) l.i
     (λ k h. length-jumped a.wide (unwords a.c) k (length-unwords a.c)) l.invariant.2
-    (rw at-counter-after.counter_after.ensures at c.put_block.ensures) in
+    (rw c.counter_after.ensures at c.put_block.ensures) in
     (omega arith, search rules, stored)
 
 returns : tie.Need-returns invariant_loop decreases_loop
@@ -33,6 +31,6 @@ returns c =
 
 pub lay_counters_spec : {M : Type 1} → statement M
 unfolding cat
-lay_counters_spec = tie.close (tie.spec invariant_loop decreases_loop (λ c. (search rules, refl, refl)) (λ c. search rules) (λ c. search rules)
-    (λ c. search rules) (λ c. search rules) (λ c. search rules) (λ c. search rules) (λ c. search rules) (λ c. search rules) loop_again
-    (λ c. search rules) returns)
+lay_counters_spec = tie.close (tie.spec invariant_loop decreases_loop (λ c. (search rules, refl, refl)) (λ c. search rules)
+    (λ c. search rules) (λ c. search rules) (λ c. search rules) (λ c. search rules) (λ c. search rules) (λ c. search rules)
+    (λ c. search rules) loop_again (λ c. search rules) returns)

@@ -19,9 +19,8 @@ loop_again c =
     blocks_on a.kind a.rk l.invariant 64 _ _ (omega arith) (omega arith) x.0 x.1.1
 
 pub run_spec : {M : Type 1} → statement M
-run_spec = tie.close (tie.spec invariant_loop decreases_loop (λ c. reached-first _ _ _ _) (λ c. omega arith) (λ c. omega arith) (λ c. omega arith)
-    (λ c. omega arith)
-    (λ c. omega arith) (λ c. omega arith) (λ c. omega arith) (λ c. (
+run_spec = tie.close (tie.spec invariant_loop decreases_loop (λ c. reached-first _ _ _ _) (λ c. omega arith) (λ c. omega arith)
+    (λ c. omega arith) (λ c. omega arith) (λ c. omega arith) (λ c. omega arith) (λ c. omega arith) (λ c κs. (
       search rules,
       (
         (omega arith, λ e. untrue e),
@@ -30,6 +29,6 @@ run_spec = tie.close (tie.spec invariant_loop decreases_loop (λ c. reached-firs
     ))
     (λ c. omega arith) (λ c. omega arith) loop_again (λ c. omega arith) (λ c. omega arith) (λ c. omega arith) (λ c. omega arith)
     (λ c. omega arith) (λ c. omega arith)
-    (λ c. (search rules, (omega arith, omega arith))) (λ c. omega arith)
+    (λ c κs. (search rules, (omega arith, omega arith))) (λ c. omega arith)
     (λ c. let a = c.args in
-    onward a.kind a.rk c.loop-at.invariant _ _ _ _ c.before.before.new.ensures))
+    onward a.kind a.rk c.loop-at.invariant _ _ _ _ c.last.ensures))

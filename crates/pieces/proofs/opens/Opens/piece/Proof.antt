@@ -7,10 +7,8 @@ use Rattle.pieces.proofs.opens.Opens.piece.Tie as tie
 pub piece_spec : {M : Type 1} → statement M
 unfolding opens_piece
 piece_spec = tie.close (tie.spec (λ c. search rules) (λ c. search rules) (λ c. search rules)
-    (λ c. let told = c.before.before in rw (← told.running-checked.ensures, told.checked-1.given.1, c.refused.ensures))
+    (λ c. rw (← c.running-checked.ensures, c.in-Refused.is, c.refused.ensures))
     (λ c. search rules) (λ c. search rules)
-    (λ c. let told = c.before.before.before in
-    sum_fits (running_passed _ _ _ _ (sym told.running-checked.ensures ∙ told.enum_told-1.given.1)))
+    (λ c. sum_fits (running_passed _ _ _ _ (sym c.running-checked.ensures ∙ c.in_default.is)))
     (λ c. search rules)
-    (λ c. let told = c.before.before.before.before in
-    rw (← told.running-checked.ensures, told.enum_told-1.given.1, c.done.ensures, c.take_in.ensures)))
+    (λ c. rw (← c.running-checked.ensures, c.in_default.is, c.done.ensures, c.take_in.ensures)))
