@@ -1,5 +1,5 @@
 -- Each return is the definition, by the tests that led there.
-use Rattle.journal.proofs.Names.{BadRecord, List, TooLong, UnknownKey, ◌∙◌, ◌≡◌, false, front, has_number, keys_in, le-ltb}
+use Rattle.journal.proofs.Names.{BadRecord, List, TooLong, UnknownKey, ◌∙◌, ◌≡◌, front, has_number, keys_in, le-ltb}
 use Rattle.journal.proofs.Names.{lt-ltb, ltb, place_of, size_at, starts_record, sym, true, ℕ}
 use Rattle.journal.proofs.Standing.{stands, size-zero, size-some}
 use Rattle.journal.proofs.Replaying.{refuses, counts}

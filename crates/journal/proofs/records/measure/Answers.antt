@@ -1,6 +1,6 @@
 -- Each early return is by the test that failed; where none did, the record stands whole.
 use Rattle.journal.proofs.Names.{Bool, List, Stands, ◌∙◌, ◌≡◌, ◌≤◌, after_record, ap, arith, behind, drop, false, length}
-use Rattle.journal.proofs.Names.{size_at, starts_part, sym, true, ℕ}
+use Rattle.journal.proofs.Names.{size_at, sym, true, ℕ}
 use Rattle.journal.proofs.Cases.{clash}
 use Rattle.journal.proofs.Standing.{not-standing, size-rest, measured, measured_is, measured_stands}
 use Rattle.journal.proofs.records.measure.Goals as goal
