@@ -1,5 +1,5 @@
 -- Demand 1: every call ends with an answer. A refusal reports length 0 and leaves the output as it was lent; a success reports
--- the length of the table of lengths and leaves what lies past it was lent. For all inputs.
+-- the length of the table of lengths and leaves what lies past it as it was lent. For all inputs.
 use Rattle.demands.specs.Names as N
 use N.{suc, zero, NoKey, NoNumber, cond, false, not, true, List, ◌≢◌, ◌⊎◌, ⊎_elim, ◌∙◌, ◌≡◌, refl, ◌<◌, ◌≤◌, ℕ, arith, eqb, ltb, length}
 use N.{eq-eqb, le-ltb, lt-ltb, ne_eqb, done, refusal, refusal_head, block_call, block_of, lengths_of, mode_call, mode_result, block_check}

@@ -120,7 +120,7 @@ the_current job (r ∷ rs) (p, ps) h f =
     (λ e. (r, rw (e, none-current job rs (alone job r rs f e)), eqb-true r.job job (and_right r.current _ e), p.edition))
     (λ e. let (m, one, its-job, fits) = the_current job rs ps (rw e at h) (two_rest r rs f) in (m, rw e one, its-job, fits))
 
--- what a look_up that found one tells
+-- what a look-up that found one tells
 found-current : (shelf : List ℕ) (used job : ℕ) → (find_call shelf used job).number ≡ 0 → AreBytes shelf
     → InOrder shelf used × TheCurrent job (records (take used shelf))
 unfolding find_call

@@ -64,7 +64,7 @@ exported_make-number n workers =
     by_test (eqb workers 0 || ltb 64 workers) (λ e. rw e) (λ e. by_test (ltb limit n) (λ f. rw (e, f)) (λ f. rw (e, f)))
 
 -- Demand 1 of ranges and plans: every call ends with an answer, for all inputs. A refusal reports length 0 and leaves the output as it was
--- lent, or hands out a plan of no pieces; a success reports the data's length and leaves what lies past it was lent, or hands out a
+-- lent, or hands out a plan of no pieces; a success reports the data's length and leaves what lies past it as it was lent, or hands out a
 -- plan that is accepted.
 
 -- what a range that passes has in order

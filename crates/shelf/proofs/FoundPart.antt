@@ -7,7 +7,7 @@ use Rattle.shelf.proofs.Walks.{none-current, alone, two_rest}
 use Rattle.shelf.proofs.Sound.{not-bad}
 use Rattle.shelf.proofs.Putting.{used-stored}
 
--- the part that look_up points to lies inside the records as they are stored, and is the current one
+-- the part that look-up points to lies inside the records as they are stored, and is the current one
 abbrev StandsThere : ℕ → List Record → Type 0
 StandsThere job rs =
     (place_of job rs + size_of job rs ≤ length (stored rs))
