@@ -28,6 +28,7 @@ GIVEN = {
     "List·isSet": "is_set",
     "List-as-Mem": "Mem",
     "List-as-Nodup": "Nodup",
+    "is-found": "tells_found",
     "Pairwise·cons": "PairwiseCons",
     "Pairwise·nil": "PairwiseNil",
     "Pairwise·of-cons": "PairwiseOf-cons",
@@ -62,7 +63,7 @@ def declared():
         code = code_of(read(path))
         names = re.findall(r"^[ \t]*(?:(?:abbrev|unfoldable|opaque|pub)[ \t]+)*([^\s(){}:,.]+)[ \t]*(?:[{(][^=\n]*?[)}][ \t]*)*:[ \t]", code, re.M)
         names += re.findall(r"^(?:pub )?(?:record|data|ruleset) (?:pub )?([^\s(){}:,.=]+)", code, re.M)
-        names += re.findall(r" as ([^\s(){},.]+·[^\s(){},.]+|[^\s(){},.]+-as-[^\s(){},.]+)", code)
+        names += re.findall(r" as ([^\s(){},.]+·[^\s(){},.]+|[^\s(){},.]+-as-[^\s(){},.]+|[a-z]\w*[A-Z]\w*)", code)
         for n in names:
             if n not in ("use", "let", "in", "λ", "|"):
                 found[n] += 1
@@ -98,6 +99,8 @@ def snake(piece):
 def respelled(name, names, functions):
     if "·" in name and "-" not in name:
         parts = re.split(r"·", name)
+        if parts[0][:1].islower():
+            return "_".join(snake(p) for p in parts)
         return parts[0] + "".join(p[:1].upper() + p[1:] for p in parts[1:])
     if "-as-" in name:
         inner, outer = name.split("-as-")
@@ -160,7 +163,7 @@ def main(words):
     for path in files((".antt", ".rt")):
         old = read(path)
         new = turned(old, to, path.endswith(".rt"))
-        new = re.sub(r"([\w'-]+) as \1(?![\w'-])", r"\1", new)
+        new = "\n".join(re.sub(r"(?<![\w'-])([\w'-]+) as \1(?![\w'-])", r"\1", l) if re.match(r"(pub )?(ghost )?use ", l) else l for l in new.split("\n"))
         if new != old:
             with open(path, "w", encoding="utf-8") as f:
                 f.write(new)

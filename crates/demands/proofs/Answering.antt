@@ -2,7 +2,7 @@
 -- the rows that tell which one is answered.
 use Rattle.demands.specs.Names as N
 use N.{not, Bool, ◌&&◌, cond, false, true, List, [], ◌∷◌, map, ◌≢◌, ◌⊎◌, inl, inr, ◌∙◌, ◌≡◌, ap, refl, ◌<◌, ◌≤◌, ℕ, arith, eqb, drop}
-use N.{get_or, length, length-append, length-drop, drop_at, eqb-false, Head, Outcome, finished, refusal, refuseAs, over, refusal_head}
+use N.{get_or, length, length-append, length-drop, drop_at, eqb-false, Head, Outcome, finished, refusal, refuse_as, over, refusal_head}
 use N.{checked, Refusal, EmptyCbc, Ended, ErrorBlockSize, ErrorDataLen, RefusalLastU8, RefusalPadding, RefusalTag, NoRoom, Retired}
 use N.{ShortGcm, TooLong, WrongBlock, WrongIv, WrongNumber, Checked, Passed, Refused, Stepped, begun, goes_on, under, Verdict}
 use N.{checked_verdict, none_with, on_key}
@@ -76,7 +76,7 @@ unfolding head_behind
 start-head S Passed shut s = refl
 start-head S (Refused r) shut s = refl
 
-pub front-head : (t : Bool) (k : ℕ) (o : List ℕ) (next : Outcome) → (refuseAs t k o next).head ≡ cond t (refusal k) next.head
+pub front-head : (t : Bool) (k : ℕ) (o : List ℕ) (next : Outcome) → (refuse_as t k o next).head ≡ cond t (refusal k) next.head
 front-head true k o next = refl
 front-head false k o next = refl
 
@@ -142,6 +142,6 @@ module _ (o : List ℕ) (n : ℕ) where
   checks_fair (Refused r) next _ = refusal_fair r
 
   pub front_fair : (t : Bool) (k : ℕ) (next : Outcome) → 0 < k → (t ≡ false → Fair next.head next.bytes)
-      → Fair (refuseAs t k o next).head (refuseAs t k o next).bytes
+      → Fair (refuse_as t k o next).head (refuse_as t k o next).bytes
   front_fair true k next h _ = refused_fair k h
   front_fair false k next h f = f refl

@@ -125,7 +125,7 @@ module _ (k : LuossavinKey) (file iv labels lengths o : List ℕ) (room : length
               opens = rw (answers f.asked (which c file iv labels lengths).place, f.first.passes);
               before = λ j h. rw (answers f.asked j, f.first.none_before j h);
             };
-        is_found_lem = λ d i f.
+        tells_found = λ d i f.
             let a = done_asked c file iv labels lengths d in
             let v = first-opens c file iv labels lengths a i
             (record {

@@ -4,7 +4,7 @@ use Rattle.demands.specs.Names as N
 use N.{cond, List, [], ◌∷◌, map, ◌∙◌, ◌≡◌, ap, refl, sym, ◌+◌, suc, zero, ℕ, eqb, drop, length, take, block_call, mode_call, key_and_iv}
 use N.{key_number, with_engine, Ctr as CtrMode, Encrypt, Sm4Cipher, Checked, Passed, Refused, Stepped, begun, goes_on, step_on, ctr_end}
 use N.{ctr_piece, ctr_start, opens_start, seal_end, seal_piece, seal_start, gcm_starting, running, writing, ctr_after, seal_after}
-use N.{CtrState as Ctr, Seal, which, plan_call, range_call, frontJournal as front, sizeAtJournal as size_at, key_at, any_retired, bad_keys}
+use N.{CtrState as Ctr, Seal, which, plan_call, range_call, front_journal as front, size_at_journal as size_at, key_at, any_retired, bad_keys}
 use N.{number_twice, place_of, call_into, replay, replay_one, replay_up_to, nothing, Report, host_block_call, host_mode_call, direction_of}
 use N.{host_ctr_start, host_opens_start, host_seal_start, host_replay, keys_of, cipher_in, host_key_engine, host_ctr_by_plan}
 use N.{host_ctr_range, host_which, LuossavinKeys, LuossavinKey}

@@ -6,8 +6,8 @@ use N.{times_x, ctr_next, Head, Outcome, done, keyed, reporting, chain, walk, ro
 use N.{hash_from, joined, mode_call, wrong_iv, data_check, key_and_iv, message_check, room_check, key_number, new_cipher, limit, room_of}
 use N.{mode_of, CipherMode, Cbc, Cfb, Ctr, Gcm, Ofb, Decrypt, Encrypt, Seal, any_too_long, bad_list, label_at, sum, search_check, which}
 use N.{plan_call, no_pieces, accepts, follows, range_call, range_check, reach_check, stretch, laid_at, Plan, label_of, ShelfOutcome}
-use N.{put_call, frontShelf as front, markedShelf as marked, read_up_to, records, sizeAtShelf as size_at}
-use N.{startsRecordShelf as starts_record, storedShelf as stored, writtenShelf as written, bad_shelf, fitted, has_current, not_higher}
+use N.{put_call, front_shelf as front, marked_shelf as marked, read_up_to, records, size_at_shelf as size_at}
+use N.{starts_record_shelf as starts_record, stored_shelf as stored, written_shelf as written, bad_shelf, fitted, has_current, not_higher}
 use N.{supersede, those, two_current, with_new, host_hash_blocks, host_hash_join, mode_in, host_mode_call, cipher_in, host_key_engine}
 use N.{host_key_new, key_answer_of, key_of, host_ctr_by_plan, host_ctr_range, Told, host_which, LuossavinKey}
 use Rattle.block.proofs.Entries.{below-replicate}
@@ -236,7 +236,7 @@ counting_from_one_is_told k a u claim =
     let p = through Decrypt (in_gcm c) [] file zeros zeros back in
     let asked : (host_which k file zeros [] (0 ∷ [])).head.number ≡ 0 =
     rw (p.content, p.key) (ap (λ (h : Head). h.number) (search-number _ [] (0 ∷ []))) in
-    let told = ((claim file zeros [] (0 ∷ []) zeros p.room).is_found_lem asked 0
+    let told = ((claim file zeros [] (0 ∷ []) zeros p.room).tells_found asked 0
     (record { inside = omega arith; opens = back; before = λ j h. absurd (omega arith) })).1 in
     absurd (omega arith)
 

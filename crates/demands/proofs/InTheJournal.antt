@@ -3,10 +3,10 @@
 use Rattle.demands.specs.Names as N
 use N.{false, true, List, [], ◌++◌, ◌∷◌, append-nil, inl, inr, ⊎_elim, ◌∙◌, ◌≡◌, ap, refl, sym, ◌<◌, ℕ, get_or, take-append_seam, ◌-◌}
 use N.{arith, ltb, length, take, lt-ltb, AreBytes, Sm4Cipher, AllReplayable, Ends, NoneDiffers, Totals, counted_all, differs, Entry}
-use N.{storedJournal as stored, writtenJournal as written, added, behind_report, bad_keys, keyOfJournal as key_of, keys_in, answered_by}
-use N.{call_into, recomputed, result_of as result, doneJournal as done, number_of_end, replay, nothing, write, JournalEnd as Ended, BadKeys}
+use N.{stored_journal as stored, written_journal as written, added, behind_report, bad_keys, key_of_journal as key_of, keys_in, answered_by}
+use N.{call_into, recomputed, result_of as result, done_journal as done, number_of_end, replay, nothing, write, JournalEnd as Ended, BadKeys}
 use N.{BadRecord, DoneJournal as Done, TooLongJournal as TooLong, UnknownKey, Replayed, Keys, DoneWrote, NoRoomWrote as NoRoom}
-use N.{host_mode_call, host_replay, keys_of, toldOfJournal as told_of, LuossavinKeys}
+use N.{host_mode_call, host_replay, keys_of, told_of_journal as told_of, LuossavinKeys}
 use Rattle.block.proofs.Same.{by_test}
 use Rattle.journal.proofs.Sums.{replay_adds_up, first_replayed}
 use Rattle.journal.proofs.Lent.{any_output-head, any_output-result}

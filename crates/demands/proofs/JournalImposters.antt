@@ -1,8 +1,8 @@
 -- Imposters put in the place of a replay: each breaks the definition, at a journal that is named.
 use Rattle.demands.specs.Names as N
-use N.{arith, ◌∙◌, false, List, [], ◌∷◌, ◌≢◌, ◌≡◌, refl, ℕ, lit<, number_of, Replayable, counted_all, markedJournal as marked, past_limit}
-use N.{starts_part, startsRecordJournal as starts_record, storedJournal as stored, any_retired, bad_keys, keys_in, number_twice, place_of}
-use N.{call_into, differs_from, doneJournal as done, number_of_end, replay, counted, nothing, BadRecord, Replayed}
+use N.{arith, ◌∙◌, false, List, [], ◌∷◌, ◌≢◌, ◌≡◌, refl, ℕ, lit<, number_of, Replayable, counted_all, marked_journal as marked, past_limit}
+use N.{starts_part, starts_record_journal as starts_record, stored_journal as stored, any_retired, bad_keys, keys_in, number_twice, place_of}
+use N.{call_into, differs_from, done_journal as done, number_of_end, replay, counted, nothing, BadRecord, Replayed}
 use Rattle.journal.proofs.Ending.{replayed_whole}
 use Rattle.journal.proofs.Replaying.{from_start, from_refused}
 use Rattle.demands.proofs.Imposters.{apart}

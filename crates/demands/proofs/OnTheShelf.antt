@@ -2,8 +2,8 @@
 use Rattle.demands.specs.Names as N
 use N.{Bool, ◌&&◌, false, true, List, [], ◌∷◌, append-nil, inr, ◌∙◌, ◌≡◌, ap, refl, sym, ◌<◌, ◌^◌, ◌≤◌, ℕ, arith, eqb, leb, ltb, drop}
 use N.{length, length-append, length-drop, take, drop_at, eq-eqb, eqb-false, eqb-true, leb-false, leb-true, ltb-false, AreBytes, Decrypt}
-use N.{label_of, ShelfOutcome as Outcome, holding, looked_up, new_record, nowhere, put_in, shelfRefuse as refuse, collect_call, find_call}
-use N.{put_call, AllProper, Record, records, storedShelf as stored, writtenShelf as written, collected, current_of, is_current_of}
+use N.{label_of, ShelfOutcome as Outcome, holding, looked_up, new_record, nowhere, put_in, shelf_refuse as refuse, collect_call, find_call}
+use N.{put_call, AllProper, Record, records, stored_shelf as stored, written_shelf as written, collected, current_of, is_current_of}
 use N.{bad_shelf, fitted, has_current, not_higher, those, two_current, InOrder, host_mode_call, LuossavinKey}
 use Rattle.block.proofs.Entries.{below-take}
 use Rattle.block.proofs.Same.{by_test, and_right}

@@ -3,8 +3,8 @@
 use Rattle.demands.specs.Names as N
 use N.{Bool, cond, not, List, [], ◌∷◌, ◌∙◌, ◌≡◌, ap, refl, sym, ◌-◌, ℕ, eqb, get_or, Head, Outcome, ending_head, head_of, outcome, Answer}
 use N.{Ending, Done, RefusedEnding as Refused, Stepped, ctr_stepped, opens_stepped, seal_stepped, CtrState as Ctr, CtrStep, Opens}
-use N.{OpensStep, Seal, SealStep, Verdict, askedHead, is_found, verdict_of, Asked, BadList, Candidate, None, RefusedAsked, Found, planHead}
-use N.{plannedOutcome, ByPlan, PlannedEnd, DonePlan, NotAccepted, RefusedPlan, ShelfOutcome, Place, shelfNumber as number_of_end}
+use N.{OpensStep, Seal, SealStep, Verdict, asked_head, is_found, verdict_of, Asked, BadList, Candidate, None, RefusedAsked, Found, plan_head}
+use N.{planned_outcome, ByPlan, PlannedEnd, DonePlan, NotAccepted, RefusedPlan, ShelfOutcome, Place, shelf_number as number_of_end}
 use N.{outcome_of, place_in, ShelfEnd, BadShelf, DoneShelf, NoCurrent, NoRoomShelf, NotHigher, ShelfFound, Kept, Leaves, Wrote, head_in}
 use N.{reported, ctr_reported, opens_reported, seal_reported, Handed, planned_reported, shelf_reported, shelved_reported, Told}
 use N.{found_reported, LuossavinAnswer, LuossavinLabel, LuossavinCtrStep, LuossavinOpensStep, LuossavinSealStep, LuossavinShelf}
@@ -78,7 +78,7 @@ unique_exported_opens-step = one (λ y. (record { answer = host_answer_of y.head
 abbrev asked_of : Head → Bool → Asked
 asked_of h found = cond found Candidate (told_by Asked (λ _. None) RefusedAsked BadList h)
 
-asked_told : (e : Asked) → asked_of (askedHead e) (is_found e) ≡ e
+asked_told : (e : Asked) → asked_of (asked_head e) (is_found e) ≡ e
 asked_told Candidate = refl
 asked_told None = refl
 asked_told BadList = refl
@@ -96,12 +96,12 @@ unique_exported_which =
     (λ r. refl)
 
 -- Plans.
-planned-told : (e : PlannedEnd) → told_by PlannedEnd DonePlan RefusedPlan NotAccepted (planHead e) ≡ e
+planned-told : (e : PlannedEnd) → told_by PlannedEnd DonePlan RefusedPlan NotAccepted (plan_head e) ≡ e
 planned-told (DonePlan n) = refl
 planned-told NotAccepted = refl
 planned-told (RefusedPlan r) = (told_back PlannedEnd DonePlan RefusedPlan NotAccepted r).0
 
-pub unique_by_plan : (x : Outcome) → One ByPlan Outcome plannedOutcome x
+pub unique_by_plan : (x : Outcome) → One ByPlan Outcome planned_outcome x
 unique_by_plan =
     one (λ y. (record { ended = told_by PlannedEnd DonePlan RefusedPlan NotAccepted y.head; key = y.head.key }, y.bytes))
     (λ a o. rw planned-told)

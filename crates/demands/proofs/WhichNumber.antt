@@ -1,7 +1,7 @@
 -- Which number an exported call answers: that of the first of the conditions of docs/REQUIREMENTS.md that holds, and no other.
 use Rattle.demands.specs.Names as N
 use N.{Bool, ◌&&◌, cond, false, not, true, List, [], ◌∷◌, inl, inr, ⊎_elim, ◌≡◌, refl, subst, sym, ℕ, eqb, length, eqb-true, Head, Outcome}
-use N.{finished, refusal, refuseAs, telling, cbc_open, cbc_head, unpadded, CbcDone, InvalidLastU8, InvalidPadding, gcm_open, refusal_head}
+use N.{finished, refusal, refuse_as, telling, cbc_open, cbc_head, unpadded, CbcDone, InvalidLastU8, InvalidPadding, gcm_open, refusal_head}
 use N.{block_call, lengths_of, mode_call, mode_result, and_then, block_check, checked, data_check, key_and_iv, key_check, message_check}
 use N.{refuse, room_check, new_cipher, wrong_number, CipherMode, Cbc, Cfb, Ctr, Gcm, Ofb, Direction, Decrypt, Encrypt, Refusal, Checked}
 use N.{Passed, Refused, ctr_end, ctr_piece, ctr_start, opens_end, opens_piece, opens_start, seal_end, seal_piece, seal_start, gcm_starting}
@@ -56,7 +56,7 @@ pub checked-said : (k : Checked) (o : List ℕ) (next : Outcome) (s : Said) → 
 checked-said k o next s e = simp (heads, said-head) e
 
 pub front-said : (t : Bool) (k : ℕ) (o : List ℕ) (x : Outcome) (s : Said) → said_in x.head ≡ s
-    → said_in (refuseAs t k o x).head ≡ cond t (only k) s
+    → said_in (refuse_as t k o x).head ≡ cond t (only k) s
 front-said true k o x s e = refl
 front-said false k o x s e = e
 

@@ -2,7 +2,7 @@
 use Rattle.demands.specs.Names as N
 use N.{Bool, ◌||◌, false, not, true, List, Perm, [], ◌++◌, ◌∷◌, append_assoc, ◌≢◌, ◌⊎◌, inl, inr, ◌∙◌, ◌≡◌, ap, refl, sym, ◌+◌, ◌-◌, ◌≤◌}
 use N.{min, suc, zero, ℕ, arith, eqb, ltb, drop, length, length-append, length-drop, length-take, take, drop-append-le, drop-drop}
-use N.{take-append_seam, le-ltb, ltb-false, blocks_of, ctr_came_round, Head, Outcome, done, keyed, leaving, refusal, refuseAs, reporting}
+use N.{take-append_seam, le-ltb, ltb-false, blocks_of, ctr_came_round, Head, Outcome, done, keyed, leaving, refusal, refuse_as, reporting}
 use N.{under, over, chain, stream_mode, CtrKind, lengths_of, mode_result, mode_call, and_then, checked, refuse, key_and_iv, message_check}
 use N.{room_check, key_number, limit, mode_of, Ctr, RefusedEnding, NoRoom, TooLong, Checked, Passed, Refused, plan_call, no_pieces, plan_of}
 use N.{accepts, planned, range_call, range_check, reach_check, stretch, Share, all_worked, applied, laid_at, share_of, shares_of, worked}
@@ -148,7 +148,7 @@ module _ (n workers : ℕ) where
 
 -- by key and IV, the length and the room
 alike : (k : ℕ) (c o : List ℕ) (b : Bool) (a : Checked) (long short : Bool)
-    → keyed k (checked (and_then a (refuse long TooLong Passed)) o (refuseAs short 6 o (done c o)))
+    → keyed k (checked (and_then a (refuse long TooLong Passed)) o (refuse_as short 6 o (done c o)))
     ≡ unsaid
     (keyed k (checked (and_then a (and_then (refuse long TooLong Passed) (refuse short NoRoom Passed))) o (reporting b (done c o))))
 alike k c o b (Refused r) long short = ap {B = Outcome} (λ (h : Head). leaving (under k h) o) (sym (quiet_ending (RefusedEnding r)))

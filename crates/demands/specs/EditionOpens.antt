@@ -55,7 +55,7 @@ NoneOpens opening file iv labels lengths o = (i : ℕ) → i < length lengths �
 -- opens it; and the part of the buffer that is told is the candidate. The call is lent the output o.
 pub record Tells (opening : Call) (file iv labels lengths o : List ℕ) (v : Told) : Type 0 where
   pub found : v.found ≡ 1 → FirstThatOpens opening file iv labels lengths o v.place
-  pub is_found_lem : v.head.number ≡ 0 → (i : ℕ) → FirstThatOpens opening file iv labels lengths o i → (v.found ≡ 1) × (v.place ≡ i)
+  pub tells_found : v.head.number ≡ 0 → (i : ℕ) → FirstThatOpens opening file iv labels lengths o i → (v.found ≡ 1) × (v.place ≡ i)
   pub none : v.head.number ≡ 0 → v.found ≡ 0 → NoneOpens opening file iv labels lengths o
   pub is_none : v.head.number ≡ 0 → NoneOpens opening file iv labels lengths o → v.found ≡ 0
   pub part : v.found ≡ 1 → take v.size (drop v.start labels) ≡ label_at labels lengths v.place

@@ -2,10 +2,10 @@
 -- pieces, asking for a file's label, a range, work by a plan, putting on a shelf, joining two hashes.
 use Rattle.demands.specs.Names as N
 use N.{Bool, false, not, true, List, [], ◌++◌, ◌∷◌, ◌*◌, ◌+◌, ◌-◌, ◌/◌, ℕ, eqb, drop, length, replicate, take, blocks_of, ctr_came_round}
-use N.{Outcome, done, leaving, refuseAs, refused, telling, over, round_keys, and_then, checked, data_check, key_and_iv, refuse, key_number}
+use N.{Outcome, done, leaving, refuse_as, refused, telling, over, round_keys, and_then, checked, data_check, key_and_iv, refuse, key_number}
 use N.{new_cipher, Ctr, Gcm, Direction, Decrypt, Encrypt, Key, Sm4Cipher, TooLong, Passed, Stepped, begun, step_on, seal_after, seal_shut}
-use N.{Seal, any_too_long, checked_verdict, first_opening, on_key, opens_with, accepts, Plan, ShelfOutcome, holding, put_in, shelfRefuse}
-use N.{records, storedShelf as stored, bad_shelf, current_of, fitted, not_higher, supersede, host_hash_blocks, host_hash_join}
+use N.{Seal, any_too_long, checked_verdict, first_opening, on_key, opens_with, accepts, Plan, ShelfOutcome, holding, put_in, shelf_refuse}
+use N.{records, stored_shelf as stored, bad_shelf, current_of, fitted, not_higher, supersede, host_hash_blocks, host_hash_join}
 use N.{host_mode_call, direction_of, cipher_in, host_key_new, host_ctr_by_plan, host_ctr_range, Told, host_which, told_of, U128}
 use N.{LuossavinKey}
 use Rattle.demands.specs.Call.{Call, result}
@@ -129,14 +129,14 @@ abbrev pub plan_first : LuossavinKey → Bool → List ℕ → Plan → List ℕ
 plan_first k decrypt iv plan d o =
     let c = cipher_in k in
     checked (key_and_iv c.answer c.retired (direction_of decrypt) Ctr (length iv)) o
-    (refuseAs (not (accepts plan (length d))) 18 o
+    (refuse_as (not (accepts plan (length d))) 18 o
     (host_ctr_by_plan k decrypt iv plan d o))
 
 -- puts on a shelf, and holds the edition against the job's current record alone
 abbrev pub against_current : List ℕ → ℕ → ℕ → ℕ → List ℕ → ShelfOutcome
 against_current shelf used job edition sealed =
-    shelfRefuse (bad_shelf shelf used) 19 shelf used
-    (shelfRefuse (not_higher job edition (current_of job (records (take used shelf)))) 20 shelf used
+    shelf_refuse (bad_shelf shelf used) 19 shelf used
+    (shelf_refuse (not_higher job edition (current_of job (records (take used shelf)))) 20 shelf used
     (holding (fitted (length shelf) (put_in shelf used job edition sealed)) shelf))
 
 -- puts on a shelf, and marks what is superseded before it collects

@@ -2,8 +2,8 @@
 -- together, and what it is for, that a night of calls is found as it was.
 use Rattle.demands.specs.Names as N
 use N.{cond, false, true, List, [], ◌∷◌, ◌⊎◌, ◌≡◌, ◌+◌, ◌<◌, ◌≤◌, ℕ, eqb, length, Ends, Replayable, answer_now, Entry, output_limit, sums}
-use N.{bad_keys, keyOfJournal as key_of, keys_in, result_of, nothing, total, BadKeys, Replayed, host_mode_call, keys_of}
-use N.{toldOfJournal as told_of, cipher_in, LuossavinKeys, LuossavinReplayed, LuossavinKey}
+use N.{bad_keys, key_of_journal as key_of, keys_in, result_of, nothing, total, BadKeys, Replayed, host_mode_call, keys_of}
+use N.{told_of_journal as told_of, cipher_in, LuossavinKeys, LuossavinReplayed, LuossavinKey}
 use Rattle.demands.specs.Answered.{one_of}
 
 -- what a host is told where the keys are bad: 26, and nothing else

@@ -26,7 +26,7 @@ pub use Rattle.counter.specs.CameRound.{blocks_of}
 unfoldable pub use Rattle.counter.specs.CameRound.{ctr_came_round, gcm_came_round}
 pub use Rattle.counter.specs.Counter.{last_four}
 unfoldable pub use Rattle.counter.specs.Counter.{ctr_next, gcm_next}
-pub use Rattle.cipher_mode.specs.Outcome.{Head, Outcome, cut_short, done, finished, keyed, leaving, refusal, refuse as refuseAs, refused}
+pub use Rattle.cipher_mode.specs.Outcome.{Head, Outcome, cut_short, done, finished, keyed, leaving, refusal, refuse as refuse_as, refused}
 pub use Rattle.cipher_mode.specs.Outcome.{reporting}
 pub use Rattle.cipher_mode.specs.Outcome.{telling, under, written}
 pub use Rattle.block.specs.Over.{over}
@@ -96,12 +96,12 @@ pub use Rattle.pieces.specs.declared.opens.OpensStep.{OpensStep}
 pub use Rattle.pieces.specs.declared.seal.Seal.{Seal}
 pub use Rattle.pieces.specs.declared.seal.SealStep.{SealStep}
 unfoldable pub use Rattle.editions.specs.Candidates.{any_too_long, bad_list, label_at, sum}
-pub use Rattle.editions.specs.Which.{Verdict, checked_verdict, ended_head as askedHead, is_found, none_with, on_key, opens_with, verdict_of}
+pub use Rattle.editions.specs.Which.{Verdict, checked_verdict, ended_head as asked_head, is_found, none_with, on_key, opens_with, verdict_of}
 unfoldable pub use Rattle.editions.specs.Which.{first_opening, search_check, which}
 pub use Rattle.editions.specs.declared.Ended.{Ended as Asked}
 pub use Rattle.editions.specs.declared.Ended.TheVariants.{BadList, Candidate, None, Refused as RefusedAsked}
 pub use Rattle.editions.specs.declared.Found.{Found}
-pub use Rattle.ranges.specs.ByPlan.{ended_head as planHead, plannedOutcome}
+pub use Rattle.ranges.specs.ByPlan.{ended_head as plan_head, planned_outcome}
 unfoldable pub use Rattle.ranges.specs.ByPlan.{plan_call}
 pub use Rattle.ranges.specs.Plan.{no_pieces, plan_of, without}
 unfoldable pub use Rattle.ranges.specs.Plan.{accepts, follows, piece_size, planned}
@@ -115,12 +115,12 @@ pub use Rattle.ranges.specs.declared.plan.Making.TheVariants.{BadWorkers, Made, 
 pub use Rattle.ranges.specs.declared.plan.Plan.{Plan}
 pub use Rattle.ranges.specs.declared.plan.Planned.{Planned}
 unfoldable pub use Rattle.label.specs.Label.{label_of}
-pub use Rattle.shelf.specs.Calls.{Outcome as ShelfOutcome, Place, holding, looked_up, new_record, nowhere, number_of_end as shelfNumber}
-pub use Rattle.shelf.specs.Calls.{outcome_of, place_in, put_in, refuse as shelfRefuse}
+pub use Rattle.shelf.specs.Calls.{Outcome as ShelfOutcome, Place, holding, looked_up, new_record, nowhere, number_of_end as shelf_number}
+pub use Rattle.shelf.specs.Calls.{outcome_of, place_in, put_in, refuse as shelf_refuse}
 unfoldable pub use Rattle.shelf.specs.Calls.{collect_call, find_call, put_call}
 pub use Rattle.shelf.specs.Records.{AllProper, Record}
-unfoldable pub use Rattle.shelf.specs.Records.{front as frontShelf, marked as markedShelf, read_up_to, records, size_at as sizeAtShelf}
-unfoldable pub use Rattle.shelf.specs.Records.{starts_record as startsRecordShelf, stored as storedShelf, written as writtenShelf}
+unfoldable pub use Rattle.shelf.specs.Records.{front as front_shelf, marked as marked_shelf, read_up_to, records, size_at as size_at_shelf}
+unfoldable pub use Rattle.shelf.specs.Records.{starts_record as starts_record_shelf, stored as stored_shelf, written as written_shelf}
 pub use Rattle.shelf.specs.Shelf.{collected, current_of, is_current_of}
 unfoldable pub use Rattle.shelf.specs.Shelf.{bad_shelf, fitted, has_current, not_higher, supersede, those, two_current, with_new}
 pub use Rattle.shelf.specs.Steps.{InOrder}
@@ -131,15 +131,15 @@ pub use Rattle.shelf.specs.declared.Kept.{Kept}
 pub use Rattle.journal.specs.Ends.{AllReplayable, Ends, NoneDiffers, Replayable, Totals, answer_now, differs}
 unfoldable pub use Rattle.journal.specs.Ends.{counted_all}
 pub use Rattle.journal.specs.Format.{Entry, from_label, output_limit, part_limit, too_long}
-unfoldable pub use Rattle.journal.specs.Format.{front as frontJournal, marked as markedJournal, past_limit, size_at as sizeAtJournal}
-unfoldable pub use Rattle.journal.specs.Format.{starts_part, starts_record as startsRecordJournal, stored as storedJournal}
-unfoldable pub use Rattle.journal.specs.Format.{written as writtenJournal}
+unfoldable pub use Rattle.journal.specs.Format.{front as front_journal, marked as marked_journal, past_limit, size_at as size_at_journal}
+unfoldable pub use Rattle.journal.specs.Format.{starts_part, starts_record as starts_record_journal, stored as stored_journal}
+unfoldable pub use Rattle.journal.specs.Format.{written as written_journal}
 unfoldable pub use Rattle.journal.specs.Joined.{added, behind_report, sums}
-pub use Rattle.journal.specs.KeyList.{has_number, key_at, key_of as keyOfJournal, keys_in}
+pub use Rattle.journal.specs.KeyList.{has_number, key_at, key_of as key_of_journal, keys_in}
 unfoldable pub use Rattle.journal.specs.KeyList.{any_retired, bad_keys, number_twice, place_of}
 pub use Rattle.journal.specs.Recomputed.{answered_by, judged, recomputed, result as result_of}
 unfoldable pub use Rattle.journal.specs.Recomputed.{call_into, differs_from}
-pub use Rattle.journal.specs.Replay.{counted_under, done as doneJournal, number_of_end, refuse as journalRefuse}
+pub use Rattle.journal.specs.Replay.{counted_under, done as done_journal, number_of_end, refuse as journal_refuse}
 unfoldable pub use Rattle.journal.specs.Replay.{replay, replay_one, replay_up_to}
 pub use Rattle.journal.specs.Reports.{nothing}
 unfoldable pub use Rattle.journal.specs.Reports.{counted, total}
@@ -160,7 +160,7 @@ pub use Rattle.luossavin.specs.Host.{head_in, mode_in, reported}
 unfoldable pub use Rattle.luossavin.specs.Host.{host_block_call, host_mode_call}
 pub use Rattle.luossavin.specs.InPieces.{ctr_reported, direction_of, opens_reported, seal_reported}
 unfoldable pub use Rattle.luossavin.specs.InPieces.{host_ctr_start, host_opens_start, host_seal_start}
-unfoldable pub use Rattle.luossavin.specs.Journals.{host_replay, keys_of, told_of as toldOfJournal}
+unfoldable pub use Rattle.luossavin.specs.Journals.{host_replay, keys_of, told_of as told_of_journal}
 unfoldable pub use Rattle.luossavin.specs.Key.{cipher_in, host_key_engine, host_key_new, host_key_retire, key_answer_of, key_of}
 pub use Rattle.luossavin.specs.Ranges.{Handed, making_head, planned_reported}
 unfoldable pub use Rattle.luossavin.specs.Ranges.{host_ctr_by_plan, host_ctr_range, host_plan_make}

@@ -1,7 +1,7 @@
 -- A host's record that no call uses as a key.
 use Rattle.demands.specs.Names as N
 use N.{Bool, false, List, ◌≡◌, ◌≤◌, ℕ, replicate, refusal, refused, Direction, bad_list, none_with, Plan, answer_now, Entry}
-use N.{keyOfJournal as key_of, keys_in, host_block_call, host_mode_call, host_ctr_start, host_opens_start, host_seal_start, keys_of}
+use N.{key_of_journal as key_of, keys_in, host_block_call, host_mode_call, host_ctr_start, host_opens_start, host_seal_start, keys_of}
 use N.{cipher_in, host_ctr_by_plan, host_ctr_range, host_which, told_of, LuossavinKeys, LuossavinKey}
 
 -- Every call on k is refused as n with the output as it was lent, and on no key. What is told before a key is looked at stands before it:

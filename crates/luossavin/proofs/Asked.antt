@@ -11,7 +11,7 @@ use Rattle.cipher_mode.specs.Key.{key_number}
 use Rattle.cipher_mode.proofs.Refusals.{refuses}
 use Rattle.editions.specs.Candidates.{sum, bad_list, any_too_long}
 use Rattle.editions.specs.Which.{Verdict, none_with, found_at, on_key, first_opening, search_check, checked_verdict, opens_with, which}
-use Rattle.editions.specs.Which.{verdict_of, ended_head as endedHeadThere}
+use Rattle.editions.specs.Which.{verdict_of, ended_head as ended_head_there}
 use Rattle.editions.specs.declared.Ended.{Ended}
 use Rattle.editions.specs.declared.Ended.TheVariants.{Candidate, None, BadList, Refused as RefusedThere}
 use Rattle.editions.specs.declared.Found.{Found}
@@ -19,7 +19,7 @@ use Rattle.luossavin.specs.Edition.{checked_head, opens_head}
 use Rattle.luossavin.specs.Which.{ended_head}
 
 -- where no candidate is no refusal, an answer is the verdict's
-pub none_is_done : (e : Ended) → ended_head 0 e ≡ endedHeadThere e
+pub none_is_done : (e : Ended) → ended_head 0 e ≡ ended_head_there e
 none_is_done Candidate = refl
 none_is_done None = refl
 none_is_done BadList = refl

@@ -22,8 +22,8 @@ ended_head NotAccepted = refusal 18
 ended_head (Refused r) = refusal_head r
 
 -- the outcome of an answer with the output o
-abbrev pub plannedOutcome : ByPlan → List ℕ → Outcome
-plannedOutcome a o = leaving (under a.key (ended_head a.ended)) o
+abbrev pub planned_outcome : ByPlan → List ℕ → Outcome
+planned_outcome a o = leaving (under a.key (ended_head a.ended)) o
 
 -- the data d by a plan, into the output o: 18, for a plan that is not accepted, stands between 5 and 6
 unfoldable pub plan_call : Direction → Sm4Cipher → List ℕ → Plan → List ℕ → List ℕ → Outcome

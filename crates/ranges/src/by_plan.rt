@@ -5,7 +5,7 @@ ghost use Rattle.block.specs.Over.{over};
 ghost use Rattle.walk.specs.Walk.{chain};
 ghost use Rattle.stream.specs.Stream.{stream_mode};
 ghost use Rattle.ranges.specs.Plan.{accepts};
-ghost use Rattle.ranges.specs.ByPlan.{plannedOutcome, plan_call};
+ghost use Rattle.ranges.specs.ByPlan.{planned_outcome, plan_call};
 
 use crate::plan::Plan;
 use crate::{plan, range};
@@ -72,7 +72,7 @@ pub fn by_plan(
     data: &[u8],
     out: &mut [u8],
 ) -> ByPlan
-    ensures { plannedOutcome result out.new ≡ plan_call direction cipher iv.now plan «data».now out.old }
+    ensures { planned_outcome result out.new ≡ plan_call direction cipher iv.now plan «data».now out.old }
 {
     let stands = cipher.answer;
     let key = cipher_mode::number_in(stands, cipher.number);
