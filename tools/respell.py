@@ -18,7 +18,7 @@ OWN = sorted(c for c in os.listdir(CRATES) if os.path.isdir(os.path.join(CRATES,
 STD = """length take drop append cons nil map set get_or replicate reverse sum xor and or shl shr not true false some none fst snd lt le eq
 ne mod div mul add sub pow suc zero one max min split head tail cat""".split()
 # Lemmas that would have a definition's name, and names that only a field of another record has.
-LEMMAS = "goes_on to_one is_found no_pieces".split()
+LEMMAS = "goes_on to_one no_pieces".split()
 FIELDS = "by_answer by_mode bytes_in bytes_out came_round cbc_decrypt cbc_encrypt round_keys".split()
 # Names that a `use` line gave to the library's: they go, or are spelled anew.
 GIVEN = {
@@ -28,7 +28,7 @@ GIVEN = {
     "List·isSet": "is_set",
     "List-as-Mem": "Mem",
     "List-as-Nodup": "Nodup",
-    "is-found": "tells_found",
+    "is_found": "tells_found",
     "Pairwise·cons": "PairwiseCons",
     "Pairwise·nil": "PairwiseNil",
     "Pairwise·of-cons": "PairwiseOf-cons",
