@@ -123,7 +123,7 @@ def table():
     for path in files((".antt", ".rt")):
         taken.update(re.split(f"[{END}]+", code_of(read(path))))
     out, given = {**GIVEN, **{n: n + "_lem" for n in LEMMAS}}, {}
-    taken -= {*LEMMAS, *FIELDS}
+    taken -= {*LEMMAS, *FIELDS, *GIVEN}
     # Definitions first: a lemma that would have a definition's name gets `_lem`.
     for n in sorted(found, key=lambda n: ("-" in n, n)):
         if n in out or n in kit and "·" not in n and "-as-" not in n:
