@@ -29,6 +29,7 @@ GIVEN = {
     "List-as-Mem": "Mem",
     "List-as-Nodup": "Nodup",
     "is_found": "tells_found",
+    "Let-through": "LetThrough",
     "Pairwise·cons": "PairwiseCons",
     "Pairwise·nil": "PairwiseNil",
     "Pairwise·of-cons": "PairwiseOf-cons",

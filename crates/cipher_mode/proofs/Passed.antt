@@ -16,11 +16,11 @@ use Rattle.cipher_mode.specs.Checks.{refuse, and_then, key_check, wrong_iv, reti
 use Rattle.cipher_mode.specs.Checks.{room_check, message_check, block_check}
 
 -- a test that refused nothing does not hold, and what comes next passed
-pub record Let_through (test : Bool) (next : Checked) : Type 0 where
+pub record LetThrough (test : Bool) (next : Checked) : Type 0 where
   pub fails : test ≡ false
   pub rest : next ≡ Passed
 
-pub let_through : (test : Bool) (r : Refusal) (next : Checked) → refuse test r next ≡ Passed → Let_through test next
+pub let_through : (test : Bool) (r : Refusal) (next : Checked) → refuse test r next ≡ Passed → LetThrough test next
 let_through true r next e = let z : ◌≡◌ {A = ℕ} 0 1 = cc in absurd (omega arith)
 let_through false r next e = record { fails = refl; rest = e }
 

@@ -1,8 +1,8 @@
 -- Demand 1 as a property of an outcome: what a caller may count on, refused or done.
 use Rattle.demands.specs.Names as N
-use N.{Bool, ◌||◌, false, true, List, [], ◌∷◌, ◌≢◌, ◌⊎◌, ◌≡◌, ◌*◌, ◌+◌, ◌-◌, ◌/◌, ◌<◌, ◌≤◌, ℕ, eqb, drop, length, Outcome, finished}
-use N.{refusal, round_keys, cbc_text, last_byte, key_head, key_number, CipherMode, Cbc, Cfb, Ctr, Gcm, Ofb, Direction, Decrypt, Encrypt}
-use N.{Sm4Cipher}
+use Rattle.std.specs.Prelude.{◌||◌, ◌∷◌, ◌≢◌, ◌⊎◌, ◌≡◌, ◌*◌, ◌+◌, ◌-◌, ◌/◌, ◌<◌, ◌≤◌}
+use N.{Bool, false, true, List, [], ℕ, eqb, drop, length, Outcome, finished, refusal, round_keys, cbc_text, last_byte, key_head, key_number}
+use N.{CipherMode, Cbc, Cfb, Ctr, Gcm, Ofb, Direction, Decrypt, Encrypt, Sm4Cipher}
 
 -- whether a number is one of a list
 abbrev pub one_of : ℕ → List ℕ → Bool

@@ -1,6 +1,7 @@
 -- Any call, true or an imposter's, by what it leaves.
 use Rattle.demands.specs.Names as N
-use N.{List, ◌≡◌, ℕ, take, Outcome, Gcm, Sm4Cipher, Sm4CipherMode}
+use Rattle.std.specs.Prelude.{◌≡◌}
+use N.{List, ℕ, take, Outcome, Gcm, Sm4Cipher, Sm4CipherMode}
 
 -- a call with its key: the outcome of a label, the data, an IV and the output as it was lent
 abbrev pub Call : Type 0

@@ -1,7 +1,8 @@
 -- What an answer says of a counter, as a property of any report: the formula of W8 where it is done, and no where it is refused.
 use Rattle.demands.specs.Names as N
-use N.{Bool, ◌&&◌, cond, false, List, [], ◌++◌, ◌∷◌, ◌≢◌, ◌≡◌, ◌-◌, ℕ, eqb, length, blocks_of, ctr_came_round, gcm_came_round, last_four}
-use N.{Head, telling, chain, stream_mode, Gctr, J0, hash_key, tag_of, CipherMode, Cbc, Cfb, Ctr, Gcm, Ofb, Direction, Decrypt, Encrypt}
+use Rattle.std.specs.Prelude.{◌&&◌, ◌++◌, ◌∷◌, ◌≢◌, ◌≡◌, ◌-◌}
+use N.{Bool, cond, false, List, [], ℕ, eqb, length, blocks_of, ctr_came_round, gcm_came_round, last_four, Head, telling, chain, stream_mode}
+use N.{Gctr, J0, hash_key, tag_of, CipherMode, Cbc, Cfb, Ctr, Gcm, Ofb, Direction, Decrypt, Encrypt}
 use Rattle.demands.specs.Call.{Call, result}
 
 -- the formula by mode, over n bytes of data: of a sealed message the last sixteen are its tag, and the other modes have no counter

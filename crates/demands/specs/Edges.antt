@@ -1,9 +1,10 @@
 -- "At the edges" of docs/REQUIREMENTS.md, with the numbers of W1: what the definitions say of a call with these lengths, whatever its
 -- bytes are, beside docs/REQUIREMENTS.md.
 use Rattle.demands.specs.Names as N
-use N.{Bool, cond, false, true, List, [], ◌++◌, ◌∷◌, map, ◌-◌, ℕ, replicate, Head, cut_short, finished, refusal, cbc_head, unpadded}
-use N.{gcm_head, refusal_head, block_check, message_check, key_head, new_cipher, room_of, CipherMode, Cbc, Cfb, Ctr, Gcm, Ofb, Direction}
-use N.{Decrypt, Encrypt, Key, Checked, Passed, Refused, Lengths}
+use Rattle.std.specs.Prelude.{◌++◌, ◌∷◌, ◌-◌}
+use N.{Bool, cond, false, true, List, [], map, ℕ, replicate, Head, cut_short, finished, refusal, cbc_head, unpadded, gcm_head, refusal_head}
+use N.{block_check, message_check, key_head, new_cipher, room_of, CipherMode, Cbc, Cfb, Ctr, Gcm, Ofb, Direction, Decrypt, Encrypt, Key}
+use N.{Checked, Passed, Refused, Lengths}
 
 -- a message of so many bytes, under an IV of so many, without a label, with so much room
 abbrev pub sizes : ℕ → ℕ → ℕ → Lengths

@@ -1,8 +1,8 @@
 -- The question whether a file opens under a job and an edition, as a property of any that is asked so, beside any call that opens
 -- sealed messages.
 use Rattle.demands.specs.Names as N
-use N.{false, true, List, ◌≢◌, ◌⊎◌, ◌≡◌, ◌+◌, ◌-◌, ◌<◌, ◌^◌, ◌≤◌, ℕ, drop, length, take, Head, Outcome, refusal, bad_list, label_at}
-use N.{none_with, label_of, Told, told_of}
+use Rattle.std.specs.Prelude.{◌≢◌, ◌⊎◌, ◌≡◌, ◌+◌, ◌-◌, ◌<◌, ◌^◌, ◌≤◌}
+use N.{false, true, List, ℕ, drop, length, take, Head, Outcome, refusal, bad_list, label_at, none_with, label_of, Told, told_of}
 use Rattle.demands.specs.Call.{Call}
 
 -- a question with its key, by what it answers to a job, an edition, a file and an IV

@@ -1,7 +1,8 @@
 -- What the engine must not show. Records, or states, that are alike but for its mark are answered alike by every public call: the same
 -- number and report, the same bytes, and a next state that is alike again.
 use Rattle.demands.specs.Names as N
-use N.{Bool, List, map, ◌≡◌, ℕ, with_engine, Direction, Sm4Cipher, Stepped, ctr_end, ctr_piece, seal_end, seal_piece, CtrState as Ctr, Seal}
+use Rattle.std.specs.Prelude.{◌≡◌}
+use N.{Bool, List, map, ℕ, with_engine, Direction, Sm4Cipher, Stepped, ctr_end, ctr_piece, seal_end, seal_piece, CtrState as Ctr, Seal}
 use N.{Plan, host_block_call, host_mode_call, host_ctr_start, host_opens_start, host_seal_start, host_key_engine, host_ctr_by_plan}
 use N.{host_ctr_range, host_which, LuossavinKeys, LuossavinKey}
 

@@ -1,8 +1,9 @@
 -- Two servers each hold half a long draft: what their hashes give when they are joined, as properties of any calls that hash bytes in
 -- blocks and join two hashes.
 use Rattle.demands.specs.Names as N
-use N.{cond, List, ◌++◌, ◌≡◌, ◌%◌, ◌*◌, ◌+◌, ◌<◌, ◌^◌, ℕ, eqb, length, replicate, bytes_of, number_of, xors, block_count, Encrypt, value}
-use N.{hash_of, host_hash_blocks, host_hash_join, host_block_call, host_mode_call, U128, LuossavinKey}
+use Rattle.std.specs.Prelude.{◌++◌, ◌≡◌, ◌%◌, ◌*◌, ◌+◌, ◌<◌, ◌^◌}
+use N.{cond, List, ℕ, eqb, length, replicate, bytes_of, number_of, xors, block_count, Encrypt, value, hash_of, host_hash_blocks}
+use N.{host_hash_join, host_block_call, host_mode_call, U128, LuossavinKey}
 use Rattle.demands.specs.Call.{result}
 use Rattle.demands.specs.CameRound.{followed_by}
 

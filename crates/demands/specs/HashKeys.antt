@@ -1,8 +1,9 @@
 -- How many hash keys could ever confuse two files, as properties of any hash of a label and a ciphertext. Here H is any element
 -- of the field, whether or not a key encrypts the zero block to it.
 use Rattle.demands.specs.Names as N
-use N.{List, [], ◌++◌, ◌∷◌, ◌≢◌, ◌≡◌, ◌+◌, ◌<◌, ◌^◌, ◌≤◌, max, ℕ, length, replicate, AreBytes, block_count, blocks, ghash, AtMost}
-use N.{FewerThanOneIn, Having, Confuses, Pair, PairHash, hashed_count, pair_hash, limit, label_of}
+use Rattle.std.specs.Prelude.{◌++◌, ◌∷◌, ◌≢◌, ◌≡◌, ◌+◌, ◌<◌, ◌^◌, ◌≤◌}
+use N.{List, [], max, ℕ, length, replicate, AreBytes, block_count, blocks, ghash, AtMost, FewerThanOneIn, Having, Confuses, Pair, PairHash}
+use N.{hashed_count, pair_hash, limit, label_of}
 use Rattle.demands.specs.Call.{Call, RefusedAs}
 
 -- label and ciphertext are bytes, and neither has more than 16,777,216

@@ -1,13 +1,13 @@
 -- Calls that look to a careless test like an exported call, and are not: encryption, decryption, setting up a key, retiring one, a start in
 -- pieces, asking for a file's label, a range, work by a plan, putting on a shelf, joining two hashes.
 use Rattle.demands.specs.Names as N
-use N.{Bool, false, not, true, List, [], ◌++◌, ◌∷◌, ◌*◌, ◌+◌, ◌-◌, ◌/◌, ℕ, eqb, drop, length, replicate, take, blocks_of, ctr_came_round}
-use N.{Outcome, done, leaving, refuse_as, refused, telling, over, round_keys, and_then, checked, data_check, key_and_iv, refuse, key_number}
-use N.{new_cipher, Ctr, Gcm, Direction, Decrypt, Encrypt, Key, Sm4Cipher, TooLong, Passed, Stepped, begun, step_on, seal_after, seal_shut}
-use N.{Seal, any_too_long, checked_verdict, first_opening, on_key, opens_with, accepts, Plan, ShelfOutcome, holding, put_in, shelf_refuse}
-use N.{records, stored_shelf as stored, bad_shelf, current_of, fitted, not_higher, supersede, host_hash_blocks, host_hash_join}
-use N.{host_mode_call, direction_of, cipher_in, host_key_new, host_ctr_by_plan, host_ctr_range, Told, host_which, told_of, U128}
-use N.{LuossavinKey}
+use Rattle.std.specs.Prelude.{◌++◌, ◌∷◌, ◌*◌, ◌+◌, ◌-◌, ◌/◌}
+use N.{Bool, false, not, true, List, [], ℕ, eqb, drop, length, replicate, take, blocks_of, ctr_came_round, Outcome, done, leaving}
+use N.{refuse_as, refused, telling, over, round_keys, and_then, checked, data_check, key_and_iv, refuse, key_number, new_cipher, Ctr, Gcm}
+use N.{Direction, Decrypt, Encrypt, Key, Sm4Cipher, TooLong, Passed, Stepped, begun, step_on, seal_after, seal_shut, Seal, any_too_long}
+use N.{checked_verdict, first_opening, on_key, opens_with, accepts, Plan, ShelfOutcome, holding, put_in, shelf_refuse, records}
+use N.{stored_shelf as stored, bad_shelf, current_of, fitted, not_higher, supersede, host_hash_blocks, host_hash_join, host_mode_call}
+use N.{direction_of, cipher_in, host_key_new, host_ctr_by_plan, host_ctr_range, Told, host_which, told_of, U128, LuossavinKey}
 use Rattle.demands.specs.Call.{Call, result}
 use Rattle.demands.specs.Workers.{RangeCall}
 

@@ -1,7 +1,8 @@
 -- A message in pieces, as properties of any calls on states of a kind S: whatever the cuts are, empty ones too, the pieces give
 -- what the single call gives.
 use Rattle.demands.specs.Names as N
-use N.{true, List, [], ◌++◌, ◌∷◌, ◌≢◌, ◌≡◌, ◌+◌, ◌≤◌, ℕ, length, take, Outcome, leaving, limit, Stepped}
+use Rattle.std.specs.Prelude.{◌++◌, ◌∷◌, ◌≢◌, ◌≡◌, ◌+◌, ◌≤◌}
+use N.{true, List, [], ℕ, length, take, Outcome, leaving, limit, Stepped}
 use Rattle.demands.specs.Answered.{one_of}
 use Rattle.demands.specs.Call.{Call, result}
 

@@ -1,9 +1,10 @@
 -- The exported replay of a journal: demand 1 of it, which number it ends with exactly when, what the reports of two journals make
 -- together, and what it is for, that a night of calls is found as it was.
 use Rattle.demands.specs.Names as N
-use N.{cond, false, true, List, [], ◌∷◌, ◌⊎◌, ◌≡◌, ◌+◌, ◌<◌, ◌≤◌, ℕ, eqb, length, Ends, Replayable, answer_now, Entry, output_limit, sums}
-use N.{bad_keys, key_of_journal as key_of, keys_in, result_of, nothing, total, BadKeys, Replayed, host_mode_call, keys_of}
-use N.{told_of_journal as told_of, cipher_in, LuossavinKeys, LuossavinReplayed, LuossavinKey}
+use Rattle.std.specs.Prelude.{◌∷◌, ◌⊎◌, ◌≡◌, ◌+◌, ◌<◌, ◌≤◌}
+use N.{cond, false, true, List, [], ℕ, eqb, length, Ends, Replayable, answer_now, Entry, output_limit, sums, bad_keys}
+use N.{key_of_journal as key_of, keys_in, result_of, nothing, total, BadKeys, Replayed, host_mode_call, keys_of, told_of_journal as told_of}
+use N.{cipher_in, LuossavinKeys, LuossavinReplayed, LuossavinKey}
 use Rattle.demands.specs.Answered.{one_of}
 
 -- what a host is told where the keys are bad: 26, and nothing else

@@ -1,6 +1,7 @@
 -- Calls that look like the replay of a journal to a careless test, and are not.
 use Rattle.demands.specs.Names as N
-use N.{cond, false, List, [], ◌∷◌, ℕ, ltb, replicate, take, word_at, Encrypt, Key, Entry, from_label, part_limit, bad_keys}
+use Rattle.std.specs.Prelude.{◌∷◌}
+use N.{cond, false, List, [], ℕ, ltb, replicate, take, word_at, Encrypt, Key, Entry, from_label, part_limit, bad_keys}
 use N.{journal_refuse as refuse, replay, nothing, BadKeys, TooLongJournal as TooLong, Replayed, Keys}
 
 -- replays a journal up to the first record that differs, and stops there

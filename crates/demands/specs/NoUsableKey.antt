@@ -1,8 +1,9 @@
 -- A host's record that no call uses as a key.
 use Rattle.demands.specs.Names as N
-use N.{Bool, false, List, ◌≡◌, ◌≤◌, ℕ, replicate, refusal, refused, Direction, bad_list, none_with, Plan, answer_now, Entry}
-use N.{key_of_journal as key_of, keys_in, host_block_call, host_mode_call, host_ctr_start, host_opens_start, host_seal_start, keys_of}
-use N.{cipher_in, host_ctr_by_plan, host_ctr_range, host_which, told_of, LuossavinKeys, LuossavinKey}
+use Rattle.std.specs.Prelude.{◌≡◌, ◌≤◌}
+use N.{Bool, false, List, ℕ, replicate, refusal, refused, Direction, bad_list, none_with, Plan, answer_now, Entry, key_of_journal as key_of}
+use N.{keys_in, host_block_call, host_mode_call, host_ctr_start, host_opens_start, host_seal_start, keys_of, cipher_in, host_ctr_by_plan}
+use N.{host_ctr_range, host_which, told_of, LuossavinKeys, LuossavinKey}
 
 -- Every call on k is refused as n with the output as it was lent, and on no key. What is told before a key is looked at stands before it:
 -- 7 for a mode above 4, and 16 for a bad list of labels.

@@ -1,8 +1,9 @@
 -- The exported calls on a shelf: demand 1 of them, which number each answers, a row a condition, in the order in which they are asked, and
 -- what a shelf is for, that no rough is shown for its final.
 use Rattle.demands.specs.Names as N
-use N.{not, true, List, [], ◌∷◌, ◌≢◌, ◌≡◌, ◌+◌, ◌<◌, ◌^◌, ◌≤◌, ℕ, ltb, drop, length, take, label_of, ShelfOutcome as Outcome, Place, put_in}
-use N.{Record, records, stored_shelf as stored, bad_shelf, collected, has_current, not_higher}
+use Rattle.std.specs.Prelude.{◌∷◌, ◌≢◌, ◌≡◌, ◌+◌, ◌<◌, ◌^◌, ◌≤◌}
+use N.{not, true, List, [], ℕ, ltb, drop, length, take, label_of, ShelfOutcome as Outcome, Place, put_in, Record, records}
+use N.{stored_shelf as stored, bad_shelf, collected, has_current, not_higher}
 use Rattle.demands.specs.Answered.{one_of}
 use Rattle.demands.specs.Call.{Call, RefusedAs}
 use Rattle.demands.specs.WhichNumber.{Row, row}

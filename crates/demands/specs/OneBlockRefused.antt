@@ -1,6 +1,7 @@
 -- Demand 3 as a property of any call that opens sealed messages: one changed block is refused.
 use Rattle.demands.specs.Names as N
-use N.{List, [], ◌++◌, ◌∷◌, ◌≢◌, ◌⊎◌, ◌≡◌, ◌%◌, ◌+◌, ◌<◌, ◌^◌, ◌≤◌, ℕ, length, replicate, AreBytes, encrypt_block, OneBlock, label_of}
+use Rattle.std.specs.Prelude.{◌++◌, ◌∷◌, ◌≢◌, ◌⊎◌, ◌≡◌, ◌%◌, ◌+◌, ◌<◌, ◌^◌, ◌≤◌}
+use N.{List, [], ℕ, length, replicate, AreBytes, encrypt_block, OneBlock, label_of}
 use Rattle.demands.specs.Call.{Call, RefusedAs}
 
 -- under the round keys rk the all-zero block is not encrypted to itself

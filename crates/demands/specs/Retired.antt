@@ -1,8 +1,9 @@
 -- Retired keys, as properties of any function that hands back a host's record and of any record that is retired. Its mark is any byte but
 -- 0.
 use Rattle.demands.specs.Names as N
-use N.{false, true, List, ◌++◌, ◌∷◌, ◌≢◌, ◌≡◌, ℕ, take, Decrypt, Encrypt, Plan, host_block_call, host_mode_call, host_ctr_start}
-use N.{host_opens_start, host_seal_start, host_replay, host_ctr_by_plan, host_ctr_range, host_which, LuossavinKeys, LuossavinKey}
+use Rattle.std.specs.Prelude.{◌++◌, ◌∷◌, ◌≢◌, ◌≡◌}
+use N.{false, true, List, ℕ, take, Decrypt, Encrypt, Plan, host_block_call, host_mode_call, host_ctr_start, host_opens_start}
+use N.{host_seal_start, host_replay, host_ctr_by_plan, host_ctr_range, host_which, LuossavinKeys, LuossavinKey}
 use Rattle.demands.specs.InTheJournal.{bad_keys_told}
 
 -- a retired record does not come back unretired

@@ -1,7 +1,8 @@
 -- Demand 1 of the calls on messages in pieces: what a caller may count on, refused or done.
 use Rattle.demands.specs.Names as N
-use N.{List, [], ◌∷◌, ◌≢◌, ◌≡◌, ℕ, Outcome, leaving, refusal, under, Stepped, ctr_end, ctr_piece, opens_end, opens_piece, seal_end}
-use N.{seal_piece, CtrState as Ctr, Opens, Seal}
+use Rattle.std.specs.Prelude.{◌∷◌, ◌≢◌, ◌≡◌}
+use N.{List, [], ℕ, Outcome, leaving, refusal, under, Stepped, ctr_end, ctr_piece, opens_end, opens_piece, seal_end, seal_piece}
+use N.{CtrState as Ctr, Opens, Seal}
 use Rattle.demands.specs.Answered.{Answered}
 
 -- what a step leaves besides its state

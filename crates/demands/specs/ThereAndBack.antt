@@ -1,6 +1,7 @@
 -- Demand 2 as a property of any two calls: the second takes back what the first did.
 use Rattle.demands.specs.Names as N
-use N.{List, ◌⊎◌, ◌≡◌, ◌≤◌, ℕ, length, AreBytes, Outcome, limit, room_of, CipherMode, Cbc, Gcm, Decrypt, Encrypt, LuossavinKey}
+use Rattle.std.specs.Prelude.{◌⊎◌, ◌≡◌, ◌≤◌}
+use N.{List, ℕ, length, AreBytes, Outcome, limit, room_of, CipherMode, Cbc, Gcm, Decrypt, Encrypt, LuossavinKey}
 use Rattle.demands.specs.Call.{Call, result}
 
 -- the same key: the same round keys, and set up with the same answer. Its number, its engine and whether it is retired may be others.

@@ -1,9 +1,9 @@
 -- Which number a call answers: for each call the conditions of docs/REQUIREMENTS.md, a row each, in the order in which they are asked.
 use Rattle.demands.specs.Names as N
-use N.{Bool, ◌&&◌, ◌||◌, cond, false, not, true, List, [], ◌++◌, ◌∷◌, map, ◌⊎◌, ◌≡◌, ◌%◌, ◌+◌, ◌-◌, ℕ, eqb, ltb, length, same, xors, Head}
-use N.{all_padding, cbc_text, last_byte, names_padding, J0, hash_key, opens_under, limit, limit_of, mode_of, room_of, sealed_limit}
-use N.{CipherMode, Cbc, Cfb, Ctr, Gcm, Ofb, Direction, Decrypt, Encrypt, hash_end, CtrState, Opens, Seal, any_too_long, bad_list}
-use N.{direction_of, LuossavinKey}
+use Rattle.std.specs.Prelude.{◌&&◌, ◌||◌, ◌++◌, ◌∷◌, ◌⊎◌, ◌≡◌, ◌%◌, ◌+◌, ◌-◌}
+use N.{Bool, cond, false, not, true, List, [], map, ℕ, eqb, ltb, length, same, xors, Head, all_padding, cbc_text, last_byte, names_padding}
+use N.{J0, hash_key, opens_under, limit, limit_of, mode_of, room_of, sealed_limit, CipherMode, Cbc, Cfb, Ctr, Gcm, Ofb, Direction, Decrypt}
+use N.{Encrypt, hash_end, CtrState, Opens, Seal, any_too_long, bad_list, direction_of, LuossavinKey}
 
 -- what a call says of a refusal: its number, and how many bytes were missing
 pub record Said : Type 0 where

@@ -1,7 +1,8 @@
 -- The worked table of docs/REQUIREMENTS.md, P1 to P12: what the definitions give, beside what docs/REQUIREMENTS.md says.
 use Rattle.demands.specs.Names as N
-use N.{Bool, false, true, List, [], ◌++◌, ◌∷◌, ℕ, replicate, bytes_of, number_of, gmul, ctr_next, gcm_next, CK, L, L', T, T', ghash}
-use N.{padding, names_padding}
+use Rattle.std.specs.Prelude.{◌++◌, ◌∷◌}
+use N.{Bool, false, true, List, [], ℕ, replicate, bytes_of, number_of, gmul, ctr_next, gcm_next, CK, L, L', T, T', ghash, padding}
+use N.{names_padding}
 
 -- a word or a hash, a list of bytes, or what is accepted
 pub data Value : Type 0 where

@@ -1,9 +1,10 @@
 -- The exported calls on ranges and plans: which number each answers, a row a condition, in the order in which they are asked; what the
 -- planner hands out; and what workers leave that each do their share.
 use Rattle.demands.specs.Names as N
-use N.{Bool, ◌||◌, false, not, true, List, [], ◌++◌, ◌∷◌, foldr, ◌≢◌, ◌⊎◌, ◌≡◌, ◌+◌, ◌≤◌, ℕ, eqb, ltb, drop, get_or, length, take, Outcome}
-use N.{finished, leaving, refusal, telling, limit, accepts, no_pieces, piece_size, Share, laid_at, share_of, Plan, host_mode_call}
-use N.{direction_of, Handed, host_ctr_range, LuossavinKey}
+use Rattle.std.specs.Prelude.{◌||◌, ◌++◌, ◌∷◌, ◌≢◌, ◌⊎◌, ◌≡◌, ◌+◌, ◌≤◌}
+use N.{Bool, false, not, true, List, [], foldr, ℕ, eqb, ltb, drop, get_or, length, take, Outcome, finished, leaving, refusal, telling}
+use N.{limit, accepts, no_pieces, piece_size, Share, laid_at, share_of, Plan, host_mode_call, direction_of, Handed, host_ctr_range}
+use N.{LuossavinKey}
 use Rattle.demands.specs.Call.{Call, result}
 use Rattle.demands.specs.WhichNumber.{Row, row, key_rows, retired_rows}
 

@@ -54,7 +54,7 @@ answered_by x e =
       output = result x;
     }
 
--- what the code lends in place of the recorded room, since no call within the limits rules more
+-- what the code lends in place of the recorded room, since no call within the limits needs more
 unfoldable pub lent_room : Entry → ℕ
 lent_room e = cond (ltb output_limit e.room) output_limit e.room
 

@@ -23,7 +23,7 @@ module _ (c : Counting) (rk : List ℕ) where
   unfolding flow_after
   flow_start s = rw (end_rest m s [] (omega arith))
 
-  -- a text that does not fill the begun block rules no more of the stream
+  -- a text that does not fill the begun block needs no more of the stream
   pub text-short : (f : Flow) (p : ℕ) (e : List ℕ) → length e < 16 - p → flow_text c rk f p e ≡ xors e (drop p f.pad)
   unfolding flow_text
   text-short f p e h =

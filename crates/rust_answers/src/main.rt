@@ -319,6 +319,9 @@ fn replay_all(rt: &HostRuntime, names: &[String], file: &[u8]) -> io::Result<()>
     write_counts(rt, seen, tally.all)
 }
 
+// No more of the file is looked at.
+const MOST: usize = 1_000_000;
+
 fn main(rt: HostRuntime) -> io::Result<()> {
     let alloc = rt.alloc();
     let mut names = Vec::new(alloc);
@@ -330,5 +333,6 @@ fn main(rt: HostRuntime) -> io::Result<()> {
         None => "",
     };
     let file = fs::read(&rt, path)?;
-    replay_all(&rt, names.as_slice(), file.as_slice())
+    let n = file.len().min(MOST);
+    replay_all(&rt, names.as_slice(), &file.as_slice()[..n])
 }
