@@ -56,7 +56,7 @@ $(built)/libluossavin.a: $(objects)
 
 $(built)/libluossavin.so: $(objects) VERSION
 	$(CC) -shared -Wl,-soname,$(soname) -Wl,-z,now -Wl,-z,text -Wl,--no-undefined -Wl,--build-id=none $(objects) -o $@
-	ln -sf $(@F) $(built)/$(soname)
+	cp $@ $(built)/$(soname)
 
 $(built):
 	mkdir -p $@
@@ -75,7 +75,7 @@ tool: | $(built)
 crate:
 	rm -rf target/rust
 	mkdir -p target/rust
-	cp -RL rust/src rust/asm rust/README.md rust/LICENSE rust/NOTICE target/rust
+	cp -R rust/src rust/asm rust/README.md rust/LICENSE rust/NOTICE target/rust
 	sed '/^# The tool/,$$d' rust/Cargo.toml >target/rust/Cargo.toml
 	echo '{"files":{}}' >target/rust/.cargo-checksum.json
 

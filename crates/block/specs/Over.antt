@@ -1,7 +1,5 @@
 -- Writing to the front of an output.
-use mathlib.Core.List.{List, _++_}
-use Prim.Native.Nat.{ℕ}
-use lib.ListN.{length, drop}
+use Rattle.std.specs.Prelude.{List, ◌++◌, ℕ, length, drop}
 
 -- the output o with p written over its front
 abbrev pub over : List ℕ → List ℕ → List ℕ

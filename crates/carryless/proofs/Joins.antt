@@ -1,12 +1,12 @@
 -- The three products of `karatsuba`, put together in words.
-use Rattle·block.proofs.Base.{_%_, _*_, _+_, _/_, _<_, _^_, ℕ, _∙_, _≡_, ap₂, sym, add-mul, add-zero, div-one, le-refl, lt-trans, mod-lt}
-use Rattle·block.proofs.Base.{mul-assoc, zero-add, digits-lt, xor-block, xor-lt, xor-shifted, xor-zero-r, lit<, high, low, pow-add, pow-pos}
-use Rattle·block.proofs.Base.{shl-lt, shl-shr, shr-lt, shr-shr, split}
-use Rattle·block.specs.Wide.{whole}
-use Rattle·block.specs.Xor.{_⊕_}
-use Rattle·block.proofs.Xor.{xor-sums}
-use Rattle·carryless·specs.specs.Carryless.{clmul, joining, joining128}
-use Rattle·carryless·proofs.proofs.Laws.{xor-clmul, clmul-mod, clmul-lt, karatsuba, square-halves}
+use Rattle.block.proofs.Base.{◌%◌, ◌*◌, ◌+◌, ◌/◌, ◌<◌, ◌^◌, ℕ, ◌∙◌, ◌≡◌, ap₂, sym, add-mul, add-zero, div-one, le_refl, lt_trans, mod-lt}
+use Rattle.block.proofs.Base.{mul_assoc, zero-add, digits_lt, xor_block, xor_lt, xor_shifted, xor_zero_r, lit<, high, low, pow-add, pow_pos}
+use Rattle.block.proofs.Base.{shl_lt, shl-shr, shr_lt, shr-shr, split}
+use Rattle.block.specs.Wide.{whole}
+use Rattle.block.specs.Xor.{◌⊕◌}
+use Rattle.block.proofs.Xor.{xor-sums}
+use Rattle.carryless.specs.Carryless.{clmul, joining, joining128}
+use Rattle.carryless.proofs.Laws.{xor-clmul, clmul-mod, clmul-lt, karatsuba, square_halves}
 
 -- a shift to the left in two words
 pub spill : (j k z : ℕ) → z / 2 ^ j * 2 ^ (k + j) + z * 2 ^ k % 2 ^ (k + j) ≡ z * 2 ^ k
@@ -16,27 +16,27 @@ spill j k z =
 join : (k h m l : ℕ) → l < 2 ^ (k + k)
     → (h ⊕ m / 2 ^ k) * 2 ^ (k + k) + (l ⊕ m * 2 ^ k % 2 ^ (k + k)) ≡ h * 2 ^ k * 2 ^ k ⊕ m * 2 ^ k ⊕ l
 join k h m l hl =
-    rw (← xor-block (k + k) h (m / 2 ^ k) l (m * 2 ^ k % 2 ^ (k + k)) hl (mod-lt (m * 2 ^ k) (pow-pos (k + k))), spill k k m)
-    (rw (← xor-shifted h (k + k) l hl, pow-add 2 k k, mul-assoc h (2 ^ k) (2 ^ k)) (simp xor-sums))
+    rw (← xor_block (k + k) h (m / 2 ^ k) l (m * 2 ^ k % 2 ^ (k + k)) hl (mod-lt (m * 2 ^ k) (pow_pos (k + k))), spill k k m)
+    (rw (← xor_shifted h (k + k) l hl, pow-add 2 k k, mul_assoc h (2 ^ k) (2 ^ k)) (simp xor-sums))
 
 pub xor-whole : (a b c d : ℕ) → b < 2 ^ 64 → d < 2 ^ 64 → whole (a ⊕ c) (b ⊕ d) ≡ whole a b ⊕ whole c d
-xor-whole a b c d hb hd = sym (xor-block 64 a c b d hb hd)
+xor-whole a b c d hb hd = sym (xor_block 64 a c b d hb hd)
 
 -- numbers of 64 bits
-pub high-lt : (x y : ℕ) → x < 2 ^ 64 → y < 2 ^ 64 → (x ⊕ y) / 2 ^ 32 < 2 ^ 32
-high-lt x y hx hy = shr-lt 32 32 (xor-lt 64 x y hx hy)
+pub high_lt : (x y : ℕ) → x < 2 ^ 64 → y < 2 ^ 64 → (x ⊕ y) / 2 ^ 32 < 2 ^ 32
+high_lt x y hx hy = shr_lt 32 32 (xor_lt 64 x y hx hy)
 
 module _ (x y h l b : ℕ)
     (eh : h ≡ clmul 32 (x / 2 ^ 32) (y / 2 ^ 32)) (el : l ≡ clmul 32 (x % 2 ^ 32) (y % 2 ^ 32))
     (eb : b ≡ clmul 32 (x % 2 ^ 32 ⊕ x / 2 ^ 32) (y % 2 ^ 32 ⊕ y / 2 ^ 32)) where
   low-lt : l < 2 ^ 64
-  low-lt = rw el (lt-trans (clmul-lt 31 32 (x % 2 ^ 32) (y % 2 ^ 32) (mod-lt y (pow-pos 32))) (lit< tt))
+  low-lt = rw el (lt_trans (clmul-lt 31 32 (x % 2 ^ 32) (y % 2 ^ 32) (mod-lt y (pow_pos 32))) (lit< tt))
 
-  pub join-64 : joining h l b ≡ clmul 64 x y
-  join-64 =
+  pub join_64 : joining h l b ≡ clmul 64 x y
+  join_64 =
       join 32 h (b ⊕ l ⊕ h) l low-lt
       ∙ (cc)
-      ∙ sym (karatsuba 32 (x / 2 ^ 32) (x % 2 ^ 32) (y / 2 ^ 32) (y % 2 ^ 32) (mod-lt x (pow-pos 32)) (mod-lt y (pow-pos 32)))
+      ∙ sym (karatsuba 32 (x / 2 ^ 32) (x % 2 ^ 32) (y / 2 ^ 32) (y % 2 ^ 32) (mod-lt x (pow_pos 32)) (mod-lt y (pow_pos 32)))
       ∙ ap₂ (clmul 64) (split x 32) (split y 32)
 
 -- where the halves are taken as 32 bits from a place on
@@ -45,42 +45,42 @@ pub join-halves : (x y a b s h l m : ℕ) → a ≡ x / 2 ^ 32 % 2 ^ 32 → b �
 join-halves x y a b s h l m ea eb es eh el em =
     let t = y % 2 ^ 32 ⊕ y / 2 ^ 32 in
     let low-is : b ≡ x % 2 ^ 32 = eb ∙ rw (div-one x) in
-    let high-is : (z : ℕ) → clmul 32 a z ≡ clmul 32 (x / 2 ^ 32) z = λ z. rw ea (clmul-mod 32 32 (x / 2 ^ 32) z (le-refl 32)) in
-    join-64 x y h l m (eh ∙ high-is (y / 2 ^ 32)) (el ∙ rw low-is)
-    (em ∙ rw (es, low-is, xor-clmul 32 (x % 2 ^ 32) a t, high-is t, xor-clmul 32 (x % 2 ^ 32) (x / 2 ^ 32) t))
+    let high_is : (z : ℕ) → clmul 32 a z ≡ clmul 32 (x / 2 ^ 32) z = λ z. rw ea (clmul-mod 32 32 (x / 2 ^ 32) z (le_refl 32)) in
+    join_64 x y h l m (eh ∙ high_is (y / 2 ^ 32)) (el ∙ rw low-is)
+    (em ∙ rw (es, low-is, xor-clmul 32 (x % 2 ^ 32) a t, high_is t, xor-clmul 32 (x % 2 ^ 32) (x / 2 ^ 32) t))
 
 -- numbers of 128 bits
 module _ (h1 h0 m1 m0 l1 l0 : ℕ) (p : h0 < 2 ^ 64) (q : m1 < 2 ^ 64) (r : m0 < 2 ^ 64) (s : l1 < 2 ^ 64) (t : l0 < 2 ^ 64) where
   upper : whole h1 (h0 ⊕ m1) ≡ whole h1 h0 ⊕ whole m1 m0 / 2 ^ 64
-  upper = rw (high m1 64 r) (simp (xor-zero-r, zero-add) at (xor-whole h1 h0 0 m1 p q))
+  upper = rw (high m1 64 r) (simp (xor_zero_r, zero-add) at (xor-whole h1 h0 0 m1 p q))
 
   lower : whole (l1 ⊕ m0) l0 ≡ whole l1 l0 ⊕ whole m1 m0 * 2 ^ 64 % 2 ^ 128
   lower =
-      rw (add-mul (m1 * 2 ^ 64) m0 (2 ^ 64), mul-assoc m1 (2 ^ 64) (2 ^ 64), low m1 128 (shl-lt 64 64 r))
-      (simp (xor-zero-r, add-zero) at (xor-whole l1 l0 m0 0 t (lit< tt)))
+      rw (add-mul (m1 * 2 ^ 64) m0 (2 ^ 64), mul_assoc m1 (2 ^ 64) (2 ^ 64), low m1 128 (shl_lt 64 64 r))
+      (simp (xor_zero_r, add-zero) at (xor-whole l1 l0 m0 0 t (lit< tt)))
 
   pub join-sums : (b g : ℕ) → g ≡ b ⊕ whole l1 l0 → whole m1 m0 ≡ g ⊕ whole h1 h0
       → whole h1 (h0 ⊕ m1) * 2 ^ 128 + whole (l1 ⊕ m0) l0 ≡ joining128 (whole h1 h0) (whole l1 l0) b
   join-sums b g eg em =
       ap₂ (λ (u v : ℕ). u * 2 ^ 128 + v) upper lower
-      ∙ join 64 (whole h1 h0) (whole m1 m0) (whole l1 l0) (digits-lt {m = 2 ^ 64} {c = 2 ^ 64} s t)
+      ∙ join 64 (whole h1 h0) (whole m1 m0) (whole l1 l0) (digits_lt {m = 2 ^ 64} {c = 2 ^ 64} s t)
       ∙ rw (em, eg)
 
-pub join-128 : (h l b x1 x0 y1 y0 : ℕ) → x0 < 2 ^ 64 → y0 < 2 ^ 64
+pub join_128 : (h l b x1 x0 y1 y0 : ℕ) → x0 < 2 ^ 64 → y0 < 2 ^ 64
     → h ≡ clmul 64 x1 y1 → l ≡ clmul 64 x0 y0 → b ≡ clmul 64 (x0 ⊕ x1) (y0 ⊕ y1)
     → joining128 h l b ≡ clmul 128 (whole x1 x0) (whole y1 y0)
-join-128 h l b x1 x0 y1 y0 hx hy eh el eb =
+join_128 h l b x1 x0 y1 y0 hx hy eh el eb =
     rw (eh, el, eb) (sym (karatsuba 64 x1 x0 y1 y0 hx hy))
 
 -- squares, word by word
-pub square-words : (h l w3 w2 w1 w0 : ℕ) → h < 2 ^ 64 → l < 2 ^ 64
+pub square_words : (h l w3 w2 w1 w0 : ℕ) → h < 2 ^ 64 → l < 2 ^ 64
     → w3 ≡ clmul 32 (h / 2 ^ 32) (h / 2 ^ 32) → w2 ≡ clmul 32 (h % 2 ^ 32) (h % 2 ^ 32)
     → w1 ≡ clmul 32 (l / 2 ^ 32) (l / 2 ^ 32) → w0 ≡ clmul 32 (l % 2 ^ 32) (l % 2 ^ 32)
     → whole w3 w2 * 2 ^ 128 + whole w1 w0 ≡ clmul 128 (whole h l) (whole h l)
-square-words h l w3 w2 w1 w0 hh hl e3 e2 e1 e0 =
+square_words h l w3 w2 w1 w0 hh hl e3 e2 e1 e0 =
     let small : (x w : ℕ) → w ≡ clmul 32 (x % 2 ^ 32) (x % 2 ^ 32) → w < 2 ^ 64 =
-    λ x w e. rw e (lt-trans (clmul-lt 31 32 (x % 2 ^ 32) (x % 2 ^ 32) (mod-lt x (pow-pos 32))) (lit< tt)) in
-    let high-is : whole w3 w2 ≡ clmul 64 h h = square-halves 32 h w3 w2 hh (small h w2 e2) e3 e2 in
-    let low-is : whole w1 w0 ≡ clmul 64 l l = square-halves 32 l w1 w0 hl (small l w0 e0) e1 e0 in
-    square-halves 64 (whole h l) (whole w3 w2) (whole w1 w0) (digits-lt {m = 2 ^ 64} {c = 2 ^ 64} hh hl)
-    (rw low-is (lt-trans (clmul-lt 63 64 l l hl) (lit< tt))) (rw (high h 64 hl) high-is) (rw (low h 64 hl) low-is)
+    λ x w e. rw e (lt_trans (clmul-lt 31 32 (x % 2 ^ 32) (x % 2 ^ 32) (mod-lt x (pow_pos 32))) (lit< tt)) in
+    let high_is : whole w3 w2 ≡ clmul 64 h h = square_halves 32 h w3 w2 hh (small h w2 e2) e3 e2 in
+    let low-is : whole w1 w0 ≡ clmul 64 l l = square_halves 32 l w1 w0 hl (small l w0 e0) e1 e0 in
+    square_halves 64 (whole h l) (whole w3 w2) (whole w1 w0) (digits_lt {m = 2 ^ 64} {c = 2 ^ 64} hh hl)
+    (rw low-is (lt_trans (clmul-lt 63 64 l l hl) (lit< tt))) (rw (high h 64 hl) high_is) (rw (low h 64 hl) low-is)

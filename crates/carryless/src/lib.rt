@@ -4,21 +4,24 @@
 // Of a word of 32 bits every fourth bit is taken. In a product of two such words at most eight ones meet at a place, and a place has four
 // bits: nothing is carried into the next, and the lowest bit of each four is the coefficient. Sixteen of these make a product of 32 by 32
 // bits, and nine of those one of 128 by 128 (Karatsuba, twice).
+
+#![tactic(auto)]
+
 pub mod many;
 
-ghost use mathlib.Core.Path.{_≡_};
-ghost use Prim.Native.Nat.{_*_, _^_, _<_};
-ghost use lib.Bits.{bitAnd};
-ghost use lib.ListN.{getD};
-ghost use Rattle·block.specs.Wide.{value};
-ghost use Rattle·block.specs.Xor.{_⊕_};
-ghost use Rattle·carryless·specs.specs.Carryless.{clmul, joining, joining128};
-ghost use Rattle·carryless·specs.specs.Product.{productValue};
-ghost use Rattle·carryless·specs.specs.Lanes.{Each};
-ghost use Rattle·carryless·specs.specs.Lent.{Quarters, Lends, PartsOf, words128};
+ghost use Rattle.std.specs.Prelude.{◌≡◌, ◌*◌, ◌^◌, ◌<◌, get_or};
+ghost use Rattle.std.specs.Int.Bits.{bit_and};
+ghost use Rattle.block.specs.Wide.{value};
+ghost use Rattle.block.specs.Xor.{◌⊕◌};
+ghost use Rattle.carryless.specs.Carryless.{clmul, joining, joining128};
+ghost use Rattle.carryless.specs.Product.{product_value};
+ghost use Rattle.carryless.specs.Lanes.{Each};
+ghost use Rattle.carryless.specs.Lent.{Quarters, Lends, PartsOf, words128};
+
 use block::U128;
 
 // A number of 256 bits in four words, w3 the highest.
+#[derive(Drop)]
 pub struct Product {
     pub w3: u64,
     pub w2: u64,
@@ -29,7 +32,7 @@ pub struct Product {
 // The nine numbers of 32 bits whose products make up one of 128 bits: of x's high half the high half, the low half and their sum, and the
 // same of x's low half and of the sum of both.
 fn words_of(x: U128) -> [u32; 9]
-    ensures { λ r. ⌜ (r ≡ words128 x) × (x .low < 2 ^ 64) ⌝ }
+    ensures { (result ≡ words128 x) × (x.low < 2 ^ 64) }
 {
     let t = x.low ^ x.high;
     let a = (x.high >> 32) as u32;
@@ -44,7 +47,7 @@ fn words_of(x: U128) -> [u32; 9]
 // What a product takes of its second factor y: the four parts, of every fourth bit each, of its nine words. They are made once where y
 // stays the same.
 pub fn parts(y: U128) -> [u32; 36]
-    ensures { λ r. ⌜ PartsOf y r ⌝ }
+    ensures { PartsOf y result }
 {
     let w = words_of(y);
     let a = w[0];
@@ -99,7 +102,7 @@ pub fn parts(y: U128) -> [u32; 36]
 // The sum of the products of x's four parts by p, q, r and s. What is multiplied is masked as 32 bits and widened then, which is how the
 // back end sees that products of 32 by 32 bits are enough.
 fn diagonal(x: u32, p: u32, q: u32, r: u32, s: u32) -> u64
-    ensures { λ z. ⌜ z ≡ bitAnd x 0x1111_1111 * p ⊕ bitAnd x 0x2222_2222 * q ⊕ bitAnd x 0x4444_4444 * r ⊕ bitAnd x 0x8888_8888 * s ⌝ }
+    ensures { result ≡ bit_and x 0x1111_1111 * p ⊕ bit_and x 0x2222_2222 * q ⊕ bit_and x 0x4444_4444 * r ⊕ bit_and x 0x8888_8888 * s }
 {
     (x & 0x1111_1111) as u64 * p as u64
         ^ (x & 0x2222_2222) as u64 * q as u64
@@ -109,8 +112,8 @@ fn diagonal(x: u32, p: u32, q: u32, r: u32, s: u32) -> u64
 
 // The product of two numbers of 32 bits. It is y's parts that are used, which are p, q, r and s.
 pub(crate) fn clmul32(x: u32, y: u32, p: u32, q: u32, r: u32, s: u32) -> u64
-    requires { ⌜ Quarters y p q r s ⌝ }
-    ensures { λ z. ⌜ z ≡ clmul 32 x y ⌝ }
+    requires { Quarters y p q r s }
+    ensures { result ≡ clmul 32 x y }
 {
     let z0 = diagonal(x, p, s, r, q);
     let z1 = diagonal(x, q, p, s, r);
@@ -124,15 +127,15 @@ pub(crate) fn clmul32(x: u32, y: u32, p: u32, q: u32, r: u32, s: u32) -> u64
 
 // The same, where y's parts stand in m from `at` on.
 fn lent32(x: u32, y: u32, m: &[u32; 36], at: usize) -> u64
-    requires { ⌜ Lends y (now m) at ⌝ }
-    ensures { λ r. ⌜ r ≡ clmul 32 x y ⌝ }
+    requires { Lends y m.now at }
+    ensures { result ≡ clmul 32 x y }
 {
     clmul32(x, y, m[at], m[at + 1], m[at + 2], m[at + 3])
 }
 
 // Three products of halves of 32 bits, put together (Karatsuba): of the high halves, of the low ones, and of their sums.
 pub(crate) fn joined(high: u64, low: u64, both: u64) -> U128
-    ensures { λ r. ⌜ value r ≡ joining high low both ⌝ }
+    ensures { value result ≡ joining high low both }
 {
     let middle = both ^ low ^ high;
     U128 {
@@ -143,7 +146,7 @@ pub(crate) fn joined(high: u64, low: u64, both: u64) -> U128
 
 // The exclusive or of a and b.
 fn xor(a: U128, b: U128) -> U128
-    ensures { λ r. ⌜ value r ≡ value a ⊕ value b ⌝ }
+    ensures { value result ≡ value a ⊕ value b }
 {
     U128 {
         high: a.high ^ b.high,
@@ -153,7 +156,7 @@ fn xor(a: U128, b: U128) -> U128
 
 // The same for halves of 64 bits.
 pub fn joined128(high: U128, low: U128, both: U128) -> Product
-    ensures { λ r. ⌜ (productValue r ≡ joining128 (value high) (value low) (value both)) × (r .w3 ≡ high .high) ⌝ }
+    ensures { (product_value result ≡ joining128 (value high) (value low) (value both)) × (result.w3 ≡ high.high) }
 {
     let part = xor(both, low);
     let middle = xor(part, high);
@@ -168,8 +171,8 @@ pub fn joined128(high: U128, low: U128, both: U128) -> Product
 // The products of x's nine words by y's, whose parts are lent as m. Of eight of them the back end makes vectors; nine it would leave
 // one by one.
 fn word_products(x: U128, y: U128, m: &[u32; 36]) -> [u64; 9]
-    requires { ⌜ PartsOf y (now m) ⌝ }
-    ensures { λ r. ⌜ Each (λ k. clmul 32 (getD (words128 x) k 0) (getD (words128 y) k 0)) 9 r × (x .low < 2 ^ 64) × (y .low < 2 ^ 64) ⌝ }
+    requires { PartsOf y m.now }
+    ensures { Each (λ k. clmul 32 (get_or (words128 x) k 0) (get_or (words128 y) k 0)) 9 result × (x.low < 2 ^ 64) × (y.low < 2 ^ 64) }
 {
     let a = words_of(x);
     let b = words_of(y);
@@ -185,8 +188,8 @@ fn word_products(x: U128, y: U128, m: &[u32; 36]) -> [u64; 9]
 
 // The product of two numbers of 128 bits, from nine of 32. It is y's parts that are used, which are lent as m.
 pub fn clmul128(x: U128, y: U128, m: &[u32; 36]) -> Product
-    requires { ⌜ PartsOf y (now m) ⌝ }
-    ensures { λ r. ⌜ productValue r ≡ clmul 128 (value x) (value y) ⌝ }
+    requires { PartsOf y m.now }
+    ensures { product_value result ≡ clmul 128 (value x) (value y) }
 {
     let z = word_products(x, y, m);
     joined128(
@@ -198,8 +201,8 @@ pub fn clmul128(x: U128, y: U128, m: &[u32; 36]) -> Product
 
 // The square of a number of 32 bits: the products of two different parts cancel.
 fn square32(x: u64) -> u64
-    requires { ⌜ x < 2 ^ 32 ⌝ }
-    ensures { λ r. ⌜ r ≡ clmul 32 x x ⌝ }
+    requires { x < 2 ^ 32 }
+    ensures { result ≡ clmul 32 x x }
 {
     let p = x & 0x1111_1111;
     let q = x & 0x2222_2222;
@@ -210,7 +213,7 @@ fn square32(x: u64) -> u64
 
 // The square of a number of 128 bits: the products of two different words cancel.
 pub fn square128(x: U128) -> Product
-    ensures { λ r. ⌜ productValue r ≡ clmul 128 (value x) (value x) ⌝ }
+    ensures { product_value result ≡ clmul 128 (value x) (value x) }
 {
     Product {
         w3: square32(x.high >> 32),

@@ -1,19 +1,17 @@
 // Products without carry of up to sixteen numbers by one. Every step is one loop over the n numbers, of which the back end makes vectors. n is a
 // parameter all the way down, since a loop whose count the back end knows is not vectorized here.
-ghost use mathlib.Core.Path.{_≡_};
-ghost use Prim.Native.Nat.{_/_, _%_, _^_, _≤_};
-ghost use lib.ListN.{length, getD};
-ghost use Rattle·block.specs.Xor.{_⊕_};
-ghost use Rattle·carryless·specs.specs.Carryless.{clmul, joining};
-ghost use Rattle·carryless·specs.specs.Lanes.{Each, Both};
-ghost use Rattle·carryless·specs.specs.Lent.{Lends, Lends64};
-use crate::clmul32;
-use crate::joined;
+ghost use Rattle.std.specs.Prelude.{◌≡◌, ◌/◌, ◌%◌, ◌^◌, ◌≤◌, length, get_or};
+ghost use Rattle.block.specs.Xor.{◌⊕◌};
+ghost use Rattle.carryless.specs.Carryless.{clmul, joining};
+ghost use Rattle.carryless.specs.Lanes.{Each, Both};
+ghost use Rattle.carryless.specs.Lent.{Lends, Lends64};
+
+use crate::{clmul32, joined};
 
 // Of each of n words the 32 bits from bit k on.
 fn halves(x: &[u64; 16], k: u32, n: usize) -> [u32; 16]
-    requires { ⌜ (n ≤ 16) × (k ≤ 32) × (length (now x) ≡ 16) ⌝ }
-    ensures { λ r. ⌜ Each (λ g. getD (now (x .entry)) g 0 / 2 ^ k % 2 ^ 32) n r ⌝ }
+    requires { (n ≤ 16) × (k ≤ 32) × (length x.now ≡ 16) }
+    ensures { Each (λ g. get_or x.now g 0 / 2 ^ k % 2 ^ 32) n result }
 {
     let mut r = [0u32; 16];
     let mut g: usize = 0;
@@ -26,8 +24,8 @@ fn halves(x: &[u64; 16], k: u32, n: usize) -> [u32; 16]
 
 // The sums of n words.
 fn sums(a: &[u32; 16], b: &[u32; 16], n: usize) -> [u32; 16]
-    requires { ⌜ (n ≤ 16) × (length (now a) ≡ 16) × (length (now b) ≡ 16) ⌝ }
-    ensures { λ r. ⌜ Each (λ g. getD (now (a .entry)) g 0 ⊕ getD (now (b .entry)) g 0) n r ⌝ }
+    requires { (n ≤ 16) × (length a.now ≡ 16) × (length b.now ≡ 16) }
+    ensures { Each (λ g. get_or a.now g 0 ⊕ get_or b.now g 0) n result }
 {
     let mut r = [0u32; 16];
     let mut g: usize = 0;
@@ -40,8 +38,8 @@ fn sums(a: &[u32; 16], b: &[u32; 16], n: usize) -> [u32; 16]
 
 // The products of n words by y, whose parts stand in m from `at` on.
 fn products(x: &[u32; 16], y: u32, m: &[u32; 36], at: usize, n: usize) -> [u64; 16]
-    requires { ⌜ (n ≤ 16) × (length (now x) ≡ 16) × Lends y (now m) at ⌝ }
-    ensures { λ r. ⌜ Each (λ g. clmul 32 (getD (now (x .entry)) g 0) y) n r ⌝ }
+    requires { (n ≤ 16) × (length x.now ≡ 16) × Lends y m.now at }
+    ensures { Each (λ g. clmul 32 (get_or x.now g 0) y) n result }
 {
     let p = m[at];
     let q = m[at + 1];
@@ -65,8 +63,8 @@ fn join_each(
     high: &mut [u64; 16],
     low: &mut [u64; 16],
 )
-    requires { ⌜ (n ≤ 16) × (length (now p) ≡ 16) × (length (now q) ≡ 16) × (length (now r) ≡ 16) × (length (now high) ≡ 16) × (length (now low) ≡ 16) ⌝ }
-    ensures { λ _. ⌜ Both (λ g. joining (getD (now (p .entry)) g 0) (getD (now (q .entry)) g 0) (getD (now (r .entry)) g 0)) n (now (high .exit)) (now (low .exit)) × (length (now (high .exit)) ≡ 16) × (length (now (low .exit)) ≡ 16) ⌝ }
+    requires { (n ≤ 16) × (length p.now ≡ 16) × (length q.now ≡ 16) × (length r.now ≡ 16) × (length high.old ≡ 16) × (length low.old ≡ 16) }
+    ensures { Both (λ g. joining (get_or p.now g 0) (get_or q.now g 0) (get_or r.now g 0)) n high.new low.new × (length high.new ≡ 16) × (length low.new ≡ 16) }
 {
     let mut g: usize = 0;
     while g < n {
@@ -87,8 +85,8 @@ pub fn products64(
     high: &mut [u64; 16],
     low: &mut [u64; 16],
 )
-    requires { ⌜ (n ≤ 16) × (length (now x) ≡ 16) × Lends64 y (now m) at × (length (now high) ≡ 16) × (length (now low) ≡ 16) ⌝ }
-    ensures { λ _. ⌜ Both (λ g. clmul 64 (getD (now (x .entry)) g 0) y) n (now (high .exit)) (now (low .exit)) × (length (now (high .exit)) ≡ 16) × (length (now (low .exit)) ≡ 16) ⌝ }
+    requires { (n ≤ 16) × (length x.now ≡ 16) × Lends64 y m.now at × (length high.old ≡ 16) × (length low.old ≡ 16) }
+    ensures { Both (λ g. clmul 64 (get_or x.now g 0) y) n high.new low.new × (length high.new ≡ 16) × (length low.new ≡ 16) }
 {
     let c = (y >> 32) as u32;
     let d = (y % 0x1_0000_0000) as u32;

@@ -1,26 +1,27 @@
 // Cbc with padding: `cbc_encrypt` and `cbc_decrypt` of libsm's `cipher_mode.rs`.
-ghost use mathlib.Core.Path.{_≡_};
-ghost use mathlib.Core.List.{_++_, reverse};
-ghost use Prim.Native.Nat.{_+_, _-_, _*_, _/_, _%_, _<_, _≤_};
-ghost use lib.ListN.{length, take, drop};
-ghost use Rattle·block.specs.Blocks.{blockAt, cat};
-ghost use Rattle·block.specs.Words.{unwords};
-ghost use Rattle·cipher.specs.Engine.{Engine};
-ghost use Rattle·walk.specs.Reached.{Reached};
-ghost use Rattle·block.specs.Over.{over};
-ghost use Rattle·walk.specs.Walk.{chain, stepped, endState};
-ghost use Rattle·padding.specs.Padding.{unpadded, openedInto};
-ghost use Rattle·cbc·specs.specs.Cbc.{cbcEncrypt, cbcDecrypt, cbcSeal, cbcText};
+
+#![tactic(auto)]
+
+ghost use Rattle.std.specs.Prelude.{◌≡◌, ◌++◌, reverse, ◌+◌, ◌-◌, ◌*◌, ◌/◌, ◌%◌, ◌<◌, ◌≤◌, length, take, drop};
+ghost use Rattle.block.specs.Blocks.{block_at, cat};
+ghost use Rattle.block.specs.Words.{unwords};
+ghost use Rattle.cipher.specs.Engine.{Engine};
+ghost use Rattle.walk.specs.Reached.{Reached};
+ghost use Rattle.block.specs.Over.{over};
+ghost use Rattle.walk.specs.Walk.{chain, stepped, end_state};
+ghost use Rattle.padding.specs.Padding.{unpadded, opened_into};
+ghost use Rattle.cbc.specs.Cbc.{cbc_encrypt, cbc_decrypt, cbc_seal, cbc_text};
+
 use padding::Opened;
 use sliced::LEAST;
 
 // The block at the front of `data`, encrypted to the front of `out`. Returns the next state, the ciphertext block.
 fn encrypt_step(t: &[u32], rk: [u32; 32], s: [u32; 4], data: &[u8], out: &mut [u8]) -> [u32; 4]
-    requires { ⌜ Engine (now t) ⌝ }
-    requires { ⌜ 16 ≤ length (now «data») ⌝ }
-    requires { ⌜ 16 ≤ length (now out) ⌝ }
-    ensures { λ r. ⌜ unwords r ≡ cbcEncrypt rk .next (unwords s) (take 16 (now («data» .entry))) ⌝ }
-    ensures { λ _. ⌜ now (out .exit) ≡ cbcEncrypt rk .block (unwords s) (take 16 (now («data» .entry))) ++ drop 16 (now (out .entry)) ⌝ }
+    requires engine { Engine t.now }
+    requires in_bounds { 16 ≤ length «data».now }
+    requires in_bounds_2 { 16 ≤ length out.old }
+    ensures result_value { unwords result ≡ (cbc_encrypt rk).next (unwords s) (take 16 «data».now) }
+    ensures out_after { out.new ≡ (cbc_encrypt rk).block (unwords s) (take 16 «data».now) ++ drop 16 out.old }
 {
     let e = cipher::encrypt(t, rk, block::block_xor(block::split_block(data), s));
     block::put_block(e, out);
@@ -35,10 +36,10 @@ pub fn encrypt_blocks(
     data: &[u8],
     out: &mut [u8],
 ) -> [u32; 4]
-    requires { ⌜ Engine (now t) ⌝ }
-    requires { ⌜ length (now «data») ≤ length (now out) ⌝ }
-    ensures { λ r. ⌜ unwords r ≡ endState (cbcEncrypt rk) (unwords iv) (now («data» .entry)) ⌝ }
-    ensures { λ _. ⌜ now (out .exit) ≡ over (chain (cbcEncrypt rk) (unwords iv) (now («data» .entry))) (now (out .entry)) ⌝ }
+    requires engine { Engine t.now }
+    requires data_in_bounds { length «data».now ≤ length out.old }
+    ensures result_value { unwords result ≡ end_state (cbc_encrypt rk) (unwords iv) «data».now }
+    ensures out_after { out.new ≡ over (chain (cbc_encrypt rk) (unwords iv) «data».now) out.old }
 {
     let mut s = iv;
     let mut at: usize = 0;
@@ -52,9 +53,9 @@ pub fn encrypt_blocks(
 
 // The whole message `data` with its padding, encrypted to the front of `out`.
 pub fn encrypt(t: &[u32], rk: [u32; 32], iv: [u32; 4], data: &[u8], out: &mut [u8])
-    requires { ⌜ Engine (now t) ⌝ }
-    requires { ⌜ 16 * (length (now «data») / 16 + 1) ≤ length (now out) ⌝ }
-    ensures { λ _. ⌜ now (out .exit) ≡ over (cbcSeal rk (unwords iv) (now («data» .entry))) (now (out .entry)) ⌝ }
+    requires engine { Engine t.now }
+    requires data_in_bounds { 16 * (length «data».now / 16 + 1) ≤ length out.old }
+    ensures { out.new ≡ over (cbc_seal rk (unwords iv) «data».now) out.old }
 {
     let at = data.len() - data.len() % 16;
     let s = encrypt_blocks(t, rk, iv, &data[0..at], out);
@@ -65,11 +66,11 @@ pub fn encrypt(t: &[u32], rk: [u32; 32], iv: [u32; 4], data: &[u8], out: &mut [u
 // The block at the front of `data`, decrypted to the front of `out` by the round keys turned round. Returns the next state,
 // the ciphertext block.
 fn decrypt_step(t: &[u32], back: [u32; 32], s: [u32; 4], data: &[u8], out: &mut [u8]) -> [u32; 4]
-    requires { ⌜ Engine (now t) ⌝ }
-    requires { ⌜ 16 ≤ length (now «data») ⌝ }
-    requires { ⌜ 16 ≤ length (now out) ⌝ }
-    ensures { λ r. ⌜ unwords r ≡ cbcDecrypt (reverse back) .next (unwords s) (take 16 (now («data» .entry))) ⌝ }
-    ensures { λ _. ⌜ now (out .exit) ≡ cbcDecrypt (reverse back) .block (unwords s) (take 16 (now («data» .entry))) ++ drop 16 (now (out .entry)) ⌝ }
+    requires engine { Engine t.now }
+    requires in_bounds { 16 ≤ length «data».now }
+    requires in_bounds_2 { 16 ≤ length out.old }
+    ensures result_value { unwords result ≡ (cbc_decrypt (reverse back)).next (unwords s) (take 16 «data».now) }
+    ensures out_after { out.new ≡ (cbc_decrypt (reverse back)).block (unwords s) (take 16 «data».now) ++ drop 16 out.old }
 {
     let p = cipher::encrypt(t, back, block::split_block(data));
     block::put_block(block::block_xor(p, s), out);
@@ -80,10 +81,10 @@ fn decrypt_step(t: &[u32], back: [u32; 32], s: [u32; 4], data: &[u8], out: &mut 
 // Full blocks of `data` from the front on, decrypted in batches, where the gates are lent. Returns how many bytes. The block before the
 // first is no part of the message, so the first goes by itself.
 fn decrypt_batches(t: &[u32], back: [u32; 32], iv: [u32; 4], data: &[u8], out: &mut [u8]) -> usize
-    requires { ⌜ Engine (now t) ⌝ }
-    requires { ⌜ length (now «data») ≤ length (now out) ⌝ }
-    ensures { λ r. ⌜ r % 16 ≡ 0 ⌝ }
-    ensures { λ r. ⌜ Reached (cbcDecrypt (reverse back)) (unwords iv) (now («data» .entry)) (now (out .entry)) (take 16 (drop r (unwords iv ++ now («data» .entry)))) (now (out .exit)) r ⌝ }
+    requires engine { Engine t.now }
+    requires data_in_bounds { length «data».now ≤ length out.old }
+    ensures result_value { result % 16 ≡ 0 }
+    ensures reached { Reached (cbc_decrypt (reverse back)) (unwords iv) «data».now out.old (take 16 (drop result (unwords iv ++ «data».now))) out.new result }
 {
     if !cipher::by_gates(t) {
         return 0;
@@ -104,8 +105,8 @@ fn decrypt_batches(t: &[u32], back: [u32; 32], iv: [u32; 4], data: &[u8], out: &
 
 // The first m blocks of `data`, decrypted side by side to the front of `out`.
 fn decrypt_few(back: [u32; 32], iv: [u32; 4], m: usize, data: &[u8], out: &mut [u8])
-    requires { ⌜ (m ≤ 64) × (16 * m ≤ length (now «data»)) × (16 * m ≤ length (now out)) ⌝ }
-    ensures { λ _. ⌜ now (out .exit) ≡ over (cat m (λ i. cbcDecrypt (reverse back) .block (stepped (cbcDecrypt (reverse back)) i (unwords iv) (now («data» .entry))) (blockAt (now («data» .entry)) i))) (now (out .entry)) ⌝ }
+    requires { (m ≤ 64) × (16 * m ≤ length «data».now) × (16 * m ≤ length out.old) }
+    ensures { out.new ≡ over (cat m (λ i. (cbc_decrypt (reverse back)).block (stepped (cbc_decrypt (reverse back)) i (unwords iv) «data».now) (block_at «data».now i))) out.old }
 {
     let mut before = [0u8; 1024];
     sixteen::lay_before(iv, data, m, &mut before);
@@ -117,8 +118,8 @@ fn decrypt_few(back: [u32; 32], iv: [u32; 4], m: usize, data: &[u8], out: &mut [
 
 // How many of the blocks of `n` bytes go side by side next.
 fn next_few(n: usize) -> usize
-    requires { ⌜ 16 ≤ n ⌝ }
-    ensures { λ r. ⌜ (1 ≤ r) × (r ≤ 64) × (16 * r ≤ n) ⌝ }
+    requires { 16 ≤ n }
+    ensures { (1 ≤ result) × (result ≤ 64) × (16 * result ≤ n) }
 {
     let m = n / 16;
     if m < 64 { m } else { 64 }
@@ -126,9 +127,9 @@ fn next_few(n: usize) -> usize
 
 // The full blocks of `data`, decrypted 64 at a time to the front of `out`. Returns the state after them.
 fn decrypt_side_by_side(back: [u32; 32], iv: [u32; 4], data: &[u8], out: &mut [u8]) -> [u32; 4]
-    requires { ⌜ length (now «data») ≤ length (now out) ⌝ }
-    ensures { λ r. ⌜ unwords r ≡ endState (cbcDecrypt (reverse back)) (unwords iv) (now («data» .entry)) ⌝ }
-    ensures { λ _. ⌜ now (out .exit) ≡ over (chain (cbcDecrypt (reverse back)) (unwords iv) (now («data» .entry))) (now (out .entry)) ⌝ }
+    requires { length «data».now ≤ length out.old }
+    ensures result_value { unwords result ≡ end_state (cbc_decrypt (reverse back)) (unwords iv) «data».now }
+    ensures out_after { out.new ≡ over (chain (cbc_decrypt (reverse back)) (unwords iv) «data».now) out.old }
 {
     let mut s = iv;
     let mut at: usize = 0;
@@ -150,10 +151,10 @@ fn decrypt_one_by_one(
     data: &[u8],
     out: &mut [u8],
 ) -> [u32; 4]
-    requires { ⌜ Engine (now t) ⌝ }
-    requires { ⌜ length (now «data») ≤ length (now out) ⌝ }
-    ensures { λ r. ⌜ unwords r ≡ endState (cbcDecrypt (reverse back)) (unwords iv) (now («data» .entry)) ⌝ }
-    ensures { λ _. ⌜ now (out .exit) ≡ over (chain (cbcDecrypt (reverse back)) (unwords iv) (now («data» .entry))) (now (out .entry)) ⌝ }
+    requires engine { Engine t.now }
+    requires data_in_bounds { length «data».now ≤ length out.old }
+    ensures result_value { unwords result ≡ end_state (cbc_decrypt (reverse back)) (unwords iv) «data».now }
+    ensures out_after { out.new ≡ over (chain (cbc_decrypt (reverse back)) (unwords iv) «data».now) out.old }
 {
     let mut s = iv;
     let mut at: usize = 0;
@@ -167,10 +168,10 @@ fn decrypt_one_by_one(
 
 // What the batches left of a message.
 fn decrypt_rest(t: &[u32], back: [u32; 32], iv: [u32; 4], data: &[u8], out: &mut [u8]) -> [u32; 4]
-    requires { ⌜ Engine (now t) ⌝ }
-    requires { ⌜ length (now «data») ≤ length (now out) ⌝ }
-    ensures { λ r. ⌜ unwords r ≡ endState (cbcDecrypt (reverse back)) (unwords iv) (now («data» .entry)) ⌝ }
-    ensures { λ _. ⌜ now (out .exit) ≡ over (chain (cbcDecrypt (reverse back)) (unwords iv) (now («data» .entry))) (now (out .entry)) ⌝ }
+    requires engine { Engine t.now }
+    requires data_in_bounds { length «data».now ≤ length out.old }
+    ensures result_value { unwords result ≡ end_state (cbc_decrypt (reverse back)) (unwords iv) «data».now }
+    ensures out_after { out.new ≡ over (chain (cbc_decrypt (reverse back)) (unwords iv) «data».now) out.old }
 {
     if cipher::by_gates(t) {
         return decrypt_side_by_side(back, iv, data, out);
@@ -187,10 +188,10 @@ pub fn decrypt_blocks(
     data: &[u8],
     out: &mut [u8],
 ) -> [u32; 4]
-    requires { ⌜ Engine (now t) ⌝ }
-    requires { ⌜ length (now «data») ≤ length (now out) ⌝ }
-    ensures { λ r. ⌜ unwords r ≡ endState (cbcDecrypt (reverse back)) (unwords iv) (now («data» .entry)) ⌝ }
-    ensures { λ _. ⌜ now (out .exit) ≡ over (chain (cbcDecrypt (reverse back)) (unwords iv) (now («data» .entry))) (now (out .entry)) ⌝ }
+    requires engine { Engine t.now }
+    requires data_in_bounds { length «data».now ≤ length out.old }
+    ensures result_value { unwords result ≡ end_state (cbc_decrypt (reverse back)) (unwords iv) «data».now }
+    ensures out_after { out.new ≡ over (chain (cbc_decrypt (reverse back)) (unwords iv) «data».now) out.old }
 {
     let at = decrypt_batches(t, back, iv, data, out);
     let s = sixteen::block_before(iv, data, at);
@@ -199,10 +200,10 @@ pub fn decrypt_blocks(
 
 // The last block of `data`, decrypted.
 fn last_block(t: &[u32], back: [u32; 32], iv: [u32; 4], data: &[u8]) -> [u8; 16]
-    requires { ⌜ Engine (now t) ⌝ }
-    requires { ⌜ 16 ≤ length (now «data») ⌝ }
-    requires { ⌜ length (now «data») % 16 ≡ 0 ⌝ }
-    ensures { λ r. ⌜ r ≡ drop (length (now («data» .entry)) - 16) (chain (cbcDecrypt (reverse back)) (unwords iv) (now («data» .entry))) ⌝ }
+    requires engine { Engine t.now }
+    requires in_bounds { 16 ≤ length «data».now }
+    requires data_len { length «data».now % 16 ≡ 0 }
+    ensures { result ≡ drop (length «data».now - 16) (chain (cbc_decrypt (reverse back)) (unwords iv) «data».now) }
 {
     let at = data.len() - 16;
     let p = cipher::encrypt(t, back, block::split_block(&data[at..]));
@@ -211,9 +212,9 @@ fn last_block(t: &[u32], back: [u32; 32], iv: [u32; 4], data: &[u8]) -> [u8; 16]
 
 // The first `n` bytes of a block, to the front of `out`.
 fn put_front(b: [u8; 16], n: usize, out: &mut [u8])
-    requires { ⌜ n ≤ 16 ⌝ }
-    requires { ⌜ n ≤ length (now out) ⌝ }
-    ensures { λ _. ⌜ now (out .exit) ≡ take n b ++ drop n (now (out .entry)) ⌝ }
+    requires n_bound { n ≤ 16 }
+    requires n_in_bounds { n ≤ length out.old }
+    ensures { out.new ≡ take n b ++ drop n out.old }
 {
     let mut i: usize = 0;
     while i < n {
@@ -224,12 +225,12 @@ fn put_front(b: [u8; 16], n: usize, out: &mut [u8])
 
 // Opens `data` into the front of `out`. The padding is settled before a byte is written, and its bytes are not written.
 pub fn decrypt(t: &[u32], rk: [u32; 32], iv: [u32; 4], data: &[u8], out: &mut [u8]) -> Opened
-    requires { ⌜ Engine (now t) ⌝ }
-    requires { ⌜ 16 ≤ length (now «data») ⌝ }
-    requires { ⌜ length (now «data») % 16 ≡ 0 ⌝ }
-    requires { ⌜ length (now «data») ≤ length (now out) ⌝ }
-    ensures { λ r. ⌜ r ≡ unpadded (cbcText rk (unwords iv) (now («data» .entry))) ⌝ }
-    ensures { λ _. ⌜ now (out .exit) ≡ openedInto (cbcText rk (unwords iv) (now («data» .entry))) (now (out .entry)) ⌝ }
+    requires engine { Engine t.now }
+    requires in_bounds { 16 ≤ length «data».now }
+    requires data_len { length «data».now % 16 ≡ 0 }
+    requires data_in_bounds { length «data».now ≤ length out.old }
+    ensures value { result ≡ unpadded (cbc_text rk (unwords iv) «data».now) }
+    ensures out_after { out.new ≡ opened_into (cbc_text rk (unwords iv) «data».now) out.old }
 {
     let back = cipher::reversed(rk);
     let last = last_block(t, back, iv, data);

@@ -1,21 +1,21 @@
 -- The bits of a rotated word, of L and of tau.
-use Rattle·cipher·proofs.proofs.Names.{L, List, Sbox, _%_, _*_, _+_, _-_, _/_, _<_, _^_, _∙_, _≡_, _≤_, _⊕_, add-comm, ap, arith, bit}
-use Rattle·cipher·proofs.proofs.Names.{bit-high, bit-low, bit-mod, bit-shr, bit-xor, bytesOf, differ, getD, lt-or-le, rotl, shr-lt, suc}
-use Rattle·cipher·proofs.proofs.Names.{sym, tau, zero, ℕ, ⊎-elim}
-use Rattle·cipher·proofs.proofs.Linear.{rotl-digits}
-use Rattle·cipher·proofs.proofs.Bounds.{tau-entries}
+use Rattle.cipher.proofs.Names.{L, List, Sbox, ◌%◌, ◌*◌, ◌+◌, ◌-◌, ◌/◌, ◌<◌, ◌^◌, ◌∙◌, ◌≡◌, ◌≤◌, ◌⊕◌, add_comm, ap, arith, bit}
+use Rattle.cipher.proofs.Names.{bit_high, bit-low, bit-mod, bit-shr, bit-xor, bytes_of, differ, get_or, lt-or-le, rotl, shr_lt, suc}
+use Rattle.cipher.proofs.Names.{sym, tau, zero, ℕ, ⊎_elim}
+use Rattle.cipher.proofs.Linear.{rotl_digits}
+use Rattle.cipher.proofs.Bounds.{tau_entries}
 
 rotl-bit-at : (w m n i : ℕ) → m + n ≡ 32 → w < 2 ^ 32 → i < 32 → bit i (rotl w n) ≡ bit ((i + m) % 32) w
 rotl-bit-at w m n i e hw hi =
-    let l : w / 2 ^ m < 2 ^ n = shr-lt n m (rw (add-comm n m, e) hw) in
-    ap (bit i) (rotl-digits m n w e) ∙ ⊎-elim
+    let l : w / 2 ^ m < 2 ^ n = shr_lt n m (rw (add_comm n m, e) hw) in
+    ap (bit i) (rotl_digits m n w e) ∙ ⊎_elim
     (λ (g : i < n).
     let q : m + i ≡ (i + m) % 32 = omega arith in
     bit-low n i (w % 2 ^ m) (w / 2 ^ m) g l ∙ bit-shr m i w ∙ ap (λ (x : ℕ). bit x w) q)
     (λ (g : n ≤ i).
     let q : i ≡ n + (i - n) = omega arith in
     let r : i - n ≡ (i + m) % 32 = omega arith in
-    ap (λ (x : ℕ). bit x (w % 2 ^ m * 2 ^ n + w / 2 ^ m)) q ∙ bit-high n (i - n) (w % 2 ^ m) (w / 2 ^ m) l
+    ap (λ (x : ℕ). bit x (w % 2 ^ m * 2 ^ n + w / 2 ^ m)) q ∙ bit_high n (i - n) (w % 2 ^ m) (w / 2 ^ m) l
     ∙ bit-mod m (i - n) w (omega arith) ∙ ap (λ (x : ℕ). bit x w) r) (lt-or-le i n)
 
 -- a bit of L from five bits, as they stand
@@ -32,11 +32,11 @@ L-bit w i hw hi =
 
 -- each byte of tau is the S-box's
 pub tau-byte : (b w : ℕ) → b < 4 → tau w / 2 ^ (8 * b) % 256 ≡ Sbox (w / 2 ^ (8 * b) % 256)
-unfolding bytesOf
-tau-byte zero w h = ap (λ (l : List ℕ). getD l 3 0) (tau-entries w)
-tau-byte (suc zero) w h = ap (λ (l : List ℕ). getD l 2 0) (tau-entries w)
-tau-byte (suc (suc zero)) w h = ap (λ (l : List ℕ). getD l 1 0) (tau-entries w)
-tau-byte (suc (suc (suc zero))) w h = ap (λ (l : List ℕ). getD l 0 0) (tau-entries w)
+unfolding bytes_of
+tau-byte zero w h = ap (λ (l : List ℕ). get_or l 3 0) (tau_entries w)
+tau-byte (suc zero) w h = ap (λ (l : List ℕ). get_or l 2 0) (tau_entries w)
+tau-byte (suc (suc zero)) w h = ap (λ (l : List ℕ). get_or l 1 0) (tau_entries w)
+tau-byte (suc (suc (suc zero))) w h = ap (λ (l : List ℕ). get_or l 0 0) (tau_entries w)
 tau-byte (suc (suc (suc (suc b)))) w h = absurd (omega arith)
 
 pub tau-bit : (b i w : ℕ) → b < 4 → i < 8 → bit (8 * b + i) (tau w) ≡ bit i (Sbox (w / 2 ^ (8 * b) % 256))

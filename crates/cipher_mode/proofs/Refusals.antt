@@ -1,43 +1,43 @@
 -- Every refusal has a number that is not 0, reports length 0, and says nothing of a counter.
-use Rattle·block.proofs.Base.{_<_, ℕ, _≡_, ap, refl, sym, _≢_, false, arith}
-use Rattle·cipher_mode·specs.specs.Outcome.{Head, refusal, telling}
-use Rattle·cipher_mode·specs.specs.Answer.{refusalHead, endingHead}
-use Rattle·cipher_mode·specs.specs.declared.answer.Refusal.{Refusal}
-use Rattle·cipher_mode·specs.specs.declared.answer.Refusal.the-variants.{ErrorBlockSize, ErrorDataLen, InvalidLastU8, InvalidTag}
-use Rattle·cipher_mode·specs.specs.declared.answer.Refusal.the-variants.{TooLong, NoRoom, EmptyCbc, ShortGcm, WrongIv, WrongBlock, Ended}
-use Rattle·cipher_mode·specs.specs.declared.answer.Refusal.the-variants.{WrongNumber, Retired, InvalidPadding}
-use Rattle·cipher_mode·specs.specs.declared.answer.Ending.{Ending}
-use Rattle·cipher_mode·specs.specs.declared.answer.Ending.the-variants.{Done, Refused}
+use Rattle.block.proofs.Base.{◌<◌, ℕ, ◌≡◌, ap, refl, sym, ◌≢◌, false, arith}
+use Rattle.cipher_mode.specs.Outcome.{Head, refusal, telling}
+use Rattle.cipher_mode.specs.Answer.{refusal_head, ending_head}
+use Rattle.cipher_mode.specs.declared.answer.Refusal.{Refusal}
+use Rattle.cipher_mode.specs.declared.answer.Refusal.TheVariants.{ErrorBlockSize, ErrorDataLen, InvalidLastU8, InvalidTag}
+use Rattle.cipher_mode.specs.declared.answer.Refusal.TheVariants.{TooLong, NoRoom, EmptyCbc, ShortGcm, WrongIv, WrongBlock, Ended}
+use Rattle.cipher_mode.specs.declared.answer.Refusal.TheVariants.{WrongNumber, Retired, InvalidPadding}
+use Rattle.cipher_mode.specs.declared.answer.Ending.{Ending}
+use Rattle.cipher_mode.specs.declared.answer.Ending.TheVariants.{Done, Refused}
 
 -- what every refusal reports
 pub record Refuses (h : Head) : Type 0 where
-  pub not-zero : h .number ≢ 0
-  pub no-size : h .size ≡ 0
-  pub no-round : h .cameRound ≡ 0
+  pub not-zero : h.number ≢ 0
+  pub no_size : h.size ≡ 0
+  pub no_round : h.came_round ≡ 0
 
-by-number : (n : ℕ) → 0 < n → Refuses (refusal n)
-by-number n h = record { not-zero = λ e. omega arith; no-size = refl; no-round = refl }
+by_number : (n : ℕ) → 0 < n → Refuses (refusal n)
+by_number n h = record { not-zero = λ e. omega arith; no_size = refl; no_round = refl }
 
-pub refuses : (r : Refusal) → Refuses (refusalHead r)
-refuses ErrorBlockSize = by-number 1 (omega arith)
-refuses ErrorDataLen = by-number 2 (omega arith)
-refuses InvalidLastU8 = by-number 3 (omega arith)
-refuses InvalidTag = by-number 4 (omega arith)
-refuses TooLong = by-number 5 (omega arith)
-refuses NoRoom = by-number 6 (omega arith)
-refuses EmptyCbc = by-number 8 (omega arith)
-refuses (ShortGcm n) = record { not-zero = λ e. omega arith; no-size = refl; no-round = refl }
-refuses WrongIv = by-number 10 (omega arith)
-refuses WrongBlock = by-number 11 (omega arith)
-refuses Ended = by-number 12 (omega arith)
-refuses WrongNumber = by-number 13 (omega arith)
-refuses Retired = by-number 14 (omega arith)
-refuses InvalidPadding = by-number 15 (omega arith)
+pub refuses : (r : Refusal) → Refuses (refusal_head r)
+refuses ErrorBlockSize = by_number 1 (omega arith)
+refuses ErrorDataLen = by_number 2 (omega arith)
+refuses InvalidLastU8 = by_number 3 (omega arith)
+refuses InvalidTag = by_number 4 (omega arith)
+refuses TooLong = by_number 5 (omega arith)
+refuses NoRoom = by_number 6 (omega arith)
+refuses EmptyCbc = by_number 8 (omega arith)
+refuses (ShortGcm n) = record { not-zero = λ e. omega arith; no_size = refl; no_round = refl }
+refuses WrongIv = by_number 10 (omega arith)
+refuses WrongBlock = by_number 11 (omega arith)
+refuses Ended = by_number 12 (omega arith)
+refuses WrongNumber = by_number 13 (omega arith)
+refuses Retired = by_number 14 (omega arith)
+refuses InvalidPadding = by_number 15 (omega arith)
 
 -- so no ending says anything of a counter by itself
-pub quiet-ending : (e : Ending) → telling false (endingHead e) ≡ endingHead e
-quiet-ending (Done n) = refl
-quiet-ending (Refused r) =
-    let h = refusalHead r in
-    ap {B = Head} (λ (c : ℕ). record { number = h .number; size = h .size; missing = h .missing; cameRound = c; key = h .key })
-    (sym (refuses r .no-round))
+pub quiet_ending : (e : Ending) → telling false (ending_head e) ≡ ending_head e
+quiet_ending (Done n) = refl
+quiet_ending (Refused r) =
+    let h = refusal_head r in
+    ap {B = Head} (λ (c : ℕ). record { number = h.number; size = h.size; missing = h.missing; came_round = c; key = h.key })
+    (sym (refuses r).no_round)

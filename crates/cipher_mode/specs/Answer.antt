@@ -1,50 +1,49 @@
 -- Number and values for every case of an answer, as in docs/NUMBERS.md.
-use Prim.Native.Nat.{ℕ}
-use mathlib.Core.List.{List}
-use Rattle·cipher_mode·specs.specs.Outcome.{Head, Outcome, finished, refusal, cutShort, under, telling, leaving}
-use Rattle·cipher_mode·specs.specs.declared.answer.Refusal.{Refusal}
-use Rattle·cipher_mode·specs.specs.declared.answer.Refusal.the-variants.{ErrorBlockSize, ErrorDataLen, InvalidLastU8, InvalidTag, TooLong}
-use Rattle·cipher_mode·specs.specs.declared.answer.Refusal.the-variants.{NoRoom, EmptyCbc, ShortGcm, WrongIv, WrongBlock, Ended}
-use Rattle·cipher_mode·specs.specs.declared.answer.Refusal.the-variants.{WrongNumber, Retired, InvalidPadding}
-use Rattle·cipher_mode·specs.specs.declared.answer.Ending.{Ending}
-use Rattle·cipher_mode·specs.specs.declared.answer.Ending.the-variants.{Done, Refused}
-use Rattle·cipher_mode·specs.specs.declared.answer.Answer.{Answer}
-use Rattle·cipher_mode·specs.specs.declared.work.Worked.{Worked}
+use Rattle.std.specs.Prelude.{ℕ, List}
+use Rattle.cipher_mode.specs.Outcome.{Head, Outcome, finished, refusal, cut_short, under, telling, leaving}
+use Rattle.cipher_mode.specs.declared.answer.Refusal.{Refusal}
+use Rattle.cipher_mode.specs.declared.answer.Refusal.TheVariants.{ErrorBlockSize, ErrorDataLen, InvalidLastU8, InvalidTag, TooLong}
+use Rattle.cipher_mode.specs.declared.answer.Refusal.TheVariants.{NoRoom, EmptyCbc, ShortGcm, WrongIv, WrongBlock, Ended}
+use Rattle.cipher_mode.specs.declared.answer.Refusal.TheVariants.{WrongNumber, Retired, InvalidPadding}
+use Rattle.cipher_mode.specs.declared.answer.Ending.{Ending}
+use Rattle.cipher_mode.specs.declared.answer.Ending.TheVariants.{Done, Refused}
+use Rattle.cipher_mode.specs.declared.answer.Answer.{Answer}
+use Rattle.cipher_mode.specs.declared.work.Worked.{Worked}
 
-abbrev pub refusalHead : Refusal → Head
-refusalHead ErrorBlockSize = refusal 1
-refusalHead ErrorDataLen = refusal 2
-refusalHead InvalidLastU8 = refusal 3
-refusalHead InvalidTag = refusal 4
-refusalHead TooLong = refusal 5
-refusalHead NoRoom = refusal 6
-refusalHead EmptyCbc = refusal 8
-refusalHead (ShortGcm n) = cutShort n
-refusalHead WrongIv = refusal 10
-refusalHead WrongBlock = refusal 11
-refusalHead Ended = refusal 12
-refusalHead WrongNumber = refusal 13
-refusalHead Retired = refusal 14
-refusalHead InvalidPadding = refusal 15
+abbrev pub refusal_head : Refusal → Head
+refusal_head ErrorBlockSize = refusal 1
+refusal_head ErrorDataLen = refusal 2
+refusal_head InvalidLastU8 = refusal 3
+refusal_head InvalidTag = refusal 4
+refusal_head TooLong = refusal 5
+refusal_head NoRoom = refusal 6
+refusal_head EmptyCbc = refusal 8
+refusal_head (ShortGcm n) = cut_short n
+refusal_head WrongIv = refusal 10
+refusal_head WrongBlock = refusal 11
+refusal_head Ended = refusal 12
+refusal_head WrongNumber = refusal 13
+refusal_head Retired = refusal 14
+refusal_head InvalidPadding = refusal 15
 
-abbrev pub endingHead : Ending → Head
-endingHead (Done n) = finished n
-endingHead (Refused r) = refusalHead r
+abbrev pub ending_head : Ending → Head
+ending_head (Done n) = finished n
+ending_head (Refused r) = refusal_head r
 
 -- the outcome of an ending with the output o, whichever key it is on
 abbrev pub ended : Ending → List ℕ → Outcome
-ended e o = leaving (endingHead e) o
+ended e o = leaving (ending_head e) o
 
 -- what work that came to an end reports, and its outcome with the output o
-abbrev pub workedHead : Worked → Head
-workedHead w = telling (w .«came_round») (endingHead (w .ending))
+abbrev pub worked_head : Worked → Head
+worked_head w = telling w.came_round (ending_head w.ending)
 
 abbrev pub worked : Worked → List ℕ → Outcome
-worked w o = leaving (workedHead w) o
+worked w o = leaving (worked_head w) o
 
-abbrev pub headOf : Answer → Head
-headOf a = under (a .key) (telling (a .«came_round») (endingHead (a .ending)))
+abbrev pub head_of : Answer → Head
+head_of a = under a.key (telling a.came_round (ending_head a.ending))
 
 -- the outcome of an answer with the output o
 abbrev pub outcome : Answer → List ℕ → Outcome
-outcome a o = leaving (headOf a) o
+outcome a o = leaving (head_of a) o

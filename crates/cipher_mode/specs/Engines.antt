@@ -1,11 +1,10 @@
 -- Which engine a message goes by: by the key's mark and, where that leaves it open, by whether its blocks wait for one another.
-use Prim.Native.Nat.{ℕ}
-use mathlib.Core.Bool.{Bool, true, false}
-use Rattle·cipher.specs.Engine.{chosen}
-use Rattle·cipher_mode·specs.specs.declared.CipherMode.{CipherMode}
-use Rattle·cipher_mode·specs.specs.declared.CipherMode.the-variants.{Cfb, Ofb, Ctr, Cbc, Gcm}
-use Rattle·cipher_mode·specs.specs.declared.Direction.{Direction}
-use Rattle·cipher_mode·specs.specs.declared.Direction.the-variants.{Encrypt, Decrypt}
+use Rattle.std.specs.Prelude.{ℕ, Bool, true, false}
+use Rattle.cipher.specs.Engine.{chosen}
+use Rattle.cipher_mode.specs.declared.CipherMode.{CipherMode}
+use Rattle.cipher_mode.specs.declared.CipherMode.TheVariants.{Cfb, Ofb, Ctr, Cbc, Gcm}
+use Rattle.cipher_mode.specs.declared.Direction.{Direction}
+use Rattle.cipher_mode.specs.declared.Direction.TheVariants.{Encrypt, Decrypt}
 
 abbrev pub forwards : Direction → Bool
 forwards Encrypt = true
@@ -19,5 +18,5 @@ waits Ctr dir = false
 waits Cbc dir = forwards dir
 waits Gcm dir = false
 
-abbrev pub engineFor : ℕ → CipherMode → Direction → ℕ
-engineFor mark mode dir = chosen mark (waits mode dir)
+abbrev pub engine_for : ℕ → CipherMode → Direction → ℕ
+engine_for mark mode dir = chosen mark (waits mode dir)

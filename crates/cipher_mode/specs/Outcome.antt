@@ -1,10 +1,6 @@
 -- What a call leaves: its number, its length, and every byte of the output. The numbers are those of docs/NUMBERS.md.
-use Prim.Native.Nat.{ℕ}
-use mathlib.Core.Bool.{Bool, _&&_, cond}
-use mathlib.Core.List.{List}
-use lib.Dec.{eqb}
-use lib.ListN.{length, take}
-use Rattle·block.specs.Over.{over}
+use Rattle.std.specs.Prelude.{ℕ, Bool, ◌&&◌, cond, List, eqb, length, take}
+use Rattle.block.specs.Over.{over}
 
 -- what a call reports
 pub record Head : Type 0 where
@@ -15,7 +11,7 @@ pub record Head : Type 0 where
   -- of refusal 9, how many bytes were missing; otherwise 0
   pub missing : ℕ
   -- 1 where the counter of a message came round, otherwise 0
-  pub cameRound : ℕ
+  pub came_round : ℕ
   -- the number of the key that the call stands on, 0 where none stands yet
   pub key : ℕ
 
@@ -30,31 +26,31 @@ leaving h o = record { head = h; bytes = o }
 
 -- done, with n bytes
 abbrev pub finished : ℕ → Head
-finished n = record { number = 0; size = n; missing = 0; cameRound = 0; key = 0 }
+finished n = record { number = 0; size = n; missing = 0; came_round = 0; key = 0 }
 
 -- a refusal reports its number, and 0 in every other field
 abbrev pub refusal : ℕ → Head
-refusal n = record { number = n; size = 0; missing = 0; cameRound = 0; key = 0 }
+refusal n = record { number = n; size = 0; missing = 0; came_round = 0; key = 0 }
 
 -- but for refusal 9, which tells that k bytes were missing
-abbrev pub cutShort : ℕ → Head
-cutShort k = record { number = 9; size = 0; missing = k; cameRound = 0; key = 0 }
+abbrev pub cut_short : ℕ → Head
+cut_short k = record { number = 9; size = 0; missing = k; came_round = 0; key = 0 }
 
 -- the same report, on the key of number k
 abbrev pub under : ℕ → Head → Head
-under k h = record { number = h .number; size = h .size; missing = h .missing; cameRound = h .cameRound; key = k }
+under k h = record { number = h.number; size = h.size; missing = h.missing; came_round = h.came_round; key = k }
 
 -- the same outcome, on the key of number k
 abbrev pub keyed : ℕ → Outcome → Outcome
-keyed k x = leaving (under k (x .head)) (x .bytes)
+keyed k x = leaving (under k x.head) x.bytes
 
 -- the same report, saying whether a counter came round
 abbrev pub telling : Bool → Head → Head
-telling b h = record { number = h .number; size = h .size; missing = h .missing; cameRound = cond b 1 0; key = h .key }
+telling b h = record { number = h.number; size = h.size; missing = h.missing; came_round = cond b 1 0; key = h.key }
 
 -- the same outcome, which, where it is done, says whether a counter came round; a refusal says no
 abbrev pub reporting : Bool → Outcome → Outcome
-reporting b x = leaving (telling (eqb (x .head .number) 0 && b) (x .head)) (x .bytes)
+reporting b x = leaving (telling (eqb x.head.number 0 && b) x.head) x.bytes
 
 -- refused: the output o is as it was lent
 abbrev pub refused : ℕ → List ℕ → Outcome
@@ -66,7 +62,7 @@ refuse test n o next = cond test (refused n o) next
 
 -- what h reports of p stands at the front of the output, and the rest of it is as it was lent
 abbrev pub written : Head → List ℕ → List ℕ → Outcome
-written h p o = record { head = h; bytes = over (take (h .size) p) o }
+written h p o = record { head = h; bytes = over (take h.size p) o }
 
 -- done: all of p stands at the front of the output
 abbrev pub done : List ℕ → List ℕ → Outcome

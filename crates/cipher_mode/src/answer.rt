@@ -1,12 +1,13 @@
 // What a call answers. Every head is made here.
-ghost use mathlib.Core.Path.{_≡_};
-ghost use Rattle·cipher_mode·specs.specs.Outcome.{finished, under, telling};
-ghost use Rattle·cipher_mode·specs.specs.Answer.{refusalHead, headOf};
+ghost use Rattle.std.specs.Prelude.{◌≡◌};
+ghost use Rattle.cipher_mode.specs.Outcome.{finished, under, telling};
+ghost use Rattle.cipher_mode.specs.Answer.{refusal_head, head_of};
 
 // Why a call was refused, by the names of libsm and, after them, those that tell the lengths apart: Cbc decryption of
 // nothing; a Gcm message or tag that is not as long as it must be, with how many bytes were missing; a wrong IV; a wrong
 // single block. Then come a message in pieces that has come to its end, a key's number out of range, encrypting under a
 // retired key, and a Cbc padding whose bytes are not all its count.
+#[derive(Clone, Copy)]
 pub enum Refusal {
     ErrorBlockSize,
     ErrorDataLen,
@@ -25,6 +26,7 @@ pub enum Refusal {
 }
 
 // How a call ended: done with a length, or refused.
+#[derive(Drop)]
 pub enum Ending {
     Done(usize),
     Refused(Refusal),
@@ -32,6 +34,7 @@ pub enum Ending {
 
 // How it ended; whether the counter of the message came round, which a refusal never says; and the number of the key that it was
 // made on: 0 where no key stands.
+#[derive(Drop)]
 pub struct Answer {
     pub ending: Ending,
     pub came_round: bool,
@@ -40,7 +43,7 @@ pub struct Answer {
 
 // The number of a refusal, as in docs/NUMBERS.md.
 pub fn number(refusal: Refusal) -> u32
-    ensures { λ r. ⌜ r ≡ refusalHead refusal .number ⌝ }
+    ensures { result ≡ (refusal_head refusal).number }
 {
     match refusal {
         Refusal::ErrorBlockSize => 1,
@@ -62,7 +65,7 @@ pub fn number(refusal: Refusal) -> u32
 
 // How many bytes were missing: of refusal 9 alone.
 pub fn missing(refusal: Refusal) -> u8
-    ensures { λ r. ⌜ r ≡ refusalHead refusal .missing ⌝ }
+    ensures { result ≡ (refusal_head refusal).missing }
 {
     match refusal {
         Refusal::ErrorBlockSize => 0,
@@ -83,7 +86,7 @@ pub fn missing(refusal: Refusal) -> u8
 }
 
 pub fn done(key: u16, length: usize) -> Answer
-    ensures { λ r. ⌜ headOf r ≡ under key (finished «length») ⌝ }
+    ensures { head_of result ≡ under key (finished «length») }
 {
     Answer {
         ending: Ending::Done(length),
@@ -94,7 +97,7 @@ pub fn done(key: u16, length: usize) -> Answer
 
 // Done with a message whose counter came round, or did not.
 pub fn done_round(key: u16, length: usize, came_round: bool) -> Answer
-    ensures { λ r. ⌜ headOf r ≡ under key (telling «came_round» (finished «length»)) ⌝ }
+    ensures { head_of result ≡ under key (telling came_round (finished «length»)) }
 {
     Answer {
         ending: Ending::Done(length),
@@ -104,7 +107,7 @@ pub fn done_round(key: u16, length: usize, came_round: bool) -> Answer
 }
 
 pub fn refused(key: u16, refusal: Refusal) -> Answer
-    ensures { λ r. ⌜ headOf r ≡ under key (refusalHead refusal) ⌝ }
+    ensures { head_of result ≡ under key (refusal_head refusal) }
 {
     Answer {
         ending: Ending::Refused(refusal),

@@ -1,13 +1,11 @@
 // All that is refused before a byte is looked at: it depends on the key's answer and mark, the mode, the direction and the
 // lengths alone. The stages stand in the order of docs/REQUIREMENTS.md, and a call takes those that it has.
-ghost use mathlib.Core.Path.{_≡_};
-ghost use Prim.Native.Nat.{_≤_};
-ghost use Rattle·cipher_mode·specs.specs.Tables.{limit, limitOf, roomOf};
-ghost use Rattle·cipher_mode·specs.specs.Checks.{keyCheck, wrongIv, retiredCheck, keyAndIv, labelCheck, shapeCheck, dataCheck, roomCheck, messageCheck, blockCheck};
-use crate::CipherMode;
-use crate::Direction;
-use crate::KeyAnswer;
+ghost use Rattle.std.specs.Prelude.{◌≡◌, ◌≤◌};
+ghost use Rattle.cipher_mode.specs.Tables.{limit, limit_of, room_of};
+ghost use Rattle.cipher_mode.specs.Checks.{key_check, wrong_iv, retired_check, key_and_iv, label_check, shape_check, data_check, room_check, message_check, block_check};
+
 use crate::answer::Refusal;
+use crate::{CipherMode, Direction, KeyAnswer};
 
 // The longest data to encrypt, the longest label of Gcm, and the longest data to decrypt in Cfb, Ofb and Ctr.
 pub const LIMIT: usize = 16777216;
@@ -15,12 +13,14 @@ pub const LIMIT: usize = 16777216;
 // The longest data to decrypt in Cbc and Gcm: a block more.
 pub const SEALED_LIMIT: usize = 16777232;
 
+#[derive(Drop)]
 pub enum Checked {
     Passed,
     Refused(Refusal),
 }
 
 // How many bytes a call was lent of each kind.
+#[derive(Drop)]
 pub struct Lengths {
     pub iv: usize,
     pub label: usize,
@@ -30,7 +30,7 @@ pub struct Lengths {
 
 // A key's answer that is no key is refused as it was when the key was set up.
 fn key(answer: KeyAnswer) -> Checked
-    ensures { λ r. ⌜ r ≡ keyCheck answer ⌝ }
+    ensures { result ≡ key_check answer }
 {
     match answer {
         KeyAnswer::Key => Checked::Passed,
@@ -41,7 +41,7 @@ fn key(answer: KeyAnswer) -> Checked
 
 // An IV of a size that the mode does not take: 16 bytes, and in Gcm 12 as well.
 fn wrong_iv(mode: CipherMode, n: usize) -> bool
-    ensures { λ r. ⌜ r ≡ wrongIv mode n ⌝ }
+    ensures { result ≡ wrong_iv mode n }
 {
     match mode {
         CipherMode::Cfb => n != 16,
@@ -54,7 +54,7 @@ fn wrong_iv(mode: CipherMode, n: usize) -> bool
 
 // A retired key does not encrypt.
 fn retired(direction: Direction, retired: bool) -> Checked
-    ensures { λ r. ⌜ r ≡ retiredCheck direction retired ⌝ }
+    ensures { result ≡ retired_check direction retired }
 {
     let Direction::Encrypt = direction else {
         return Checked::Passed;
@@ -66,6 +66,7 @@ fn retired(direction: Direction, retired: bool) -> Checked
 }
 
 // The key's answer is a key, the IV has a size that the mode takes, and the key may do what is asked.
+#[tactic(auto, unfolding(crate::specs::Checks::key_and_iv))]
 pub fn key_and_iv(
     answer: KeyAnswer,
     mark: bool,
@@ -73,7 +74,7 @@ pub fn key_and_iv(
     mode: CipherMode,
     iv: usize,
 ) -> Checked
-    ensures { λ r. ⌜ r ≡ keyAndIv answer mark direction mode iv ⌝ }
+    ensures { result ≡ key_and_iv answer mark direction mode iv }
 {
     let first = key(answer);
     let Checked::Passed = first else {
@@ -87,7 +88,7 @@ pub fn key_and_iv(
 
 // Only Gcm looks at the label.
 pub fn label(mode: CipherMode, n: usize) -> Checked
-    ensures { λ r. ⌜ r ≡ labelCheck mode n ⌝ }
+    ensures { result ≡ label_check mode n }
 {
     match mode {
         CipherMode::Cfb => Checked::Passed,
@@ -104,7 +105,7 @@ pub fn label(mode: CipherMode, n: usize) -> Checked
 }
 
 pub fn limit_of(direction: Direction, mode: CipherMode) -> usize
-    ensures { λ r. ⌜ r ≡ limitOf direction mode ⌝ }
+    ensures { result ≡ limit_of direction mode }
 {
     let Direction::Decrypt = direction else {
         return LIMIT;
@@ -121,7 +122,7 @@ pub fn limit_of(direction: Direction, mode: CipherMode) -> usize
 // The lengths of data to decrypt that nothing was ever encrypted to: Cbc gives full blocks, and at least one, and Gcm a tag, and before it
 // the text.
 fn shape(direction: Direction, mode: CipherMode, n: usize) -> Checked
-    ensures { λ r. ⌜ r ≡ shapeCheck direction mode n ⌝ }
+    ensures { result ≡ shape_check direction mode n }
 {
     let Direction::Decrypt = direction else {
         return Checked::Passed;
@@ -148,8 +149,9 @@ fn shape(direction: Direction, mode: CipherMode, n: usize) -> Checked
     }
 }
 
+#[tactic(auto, unfolding(crate::specs::Checks::data_check))]
 pub fn data(direction: Direction, mode: CipherMode, n: usize) -> Checked
-    ensures { λ r. ⌜ r ≡ dataCheck direction mode n ⌝ }
+    ensures { result ≡ data_check direction mode n }
 {
     if n > limit_of(direction, mode) {
         return Checked::Refused(Refusal::TooLong);
@@ -159,8 +161,8 @@ pub fn data(direction: Direction, mode: CipherMode, n: usize) -> Checked
 
 // How long the message is that `n` bytes are encrypted to; it needs that room.
 pub fn encrypted_length(mode: CipherMode, n: usize) -> usize
-    requires { ⌜ n ≤ limit ⌝ }
-    ensures { λ r. ⌜ r ≡ roomOf mode Direction.Encrypt n ⌝ }
+    requires { n ≤ limit }
+    ensures { result ≡ room_of mode Direction.Encrypt n }
 {
     match mode {
         CipherMode::Cfb => n,
@@ -172,8 +174,8 @@ pub fn encrypted_length(mode: CipherMode, n: usize) -> usize
 }
 
 fn room_of(direction: Direction, mode: CipherMode, n: usize) -> usize
-    requires { ⌜ dataCheck direction mode n ≡ Checked.Passed ⌝ }
-    ensures { λ r. ⌜ r ≡ roomOf mode direction n ⌝ }
+    requires { data_check direction mode n ≡ Checked.Passed }
+    ensures { result ≡ room_of mode direction n }
 {
     match direction {
         Direction::Encrypt => encrypted_length(mode, n),
@@ -188,9 +190,10 @@ fn room_of(direction: Direction, mode: CipherMode, n: usize) -> usize
 }
 
 // The room, for data that is in order.
+#[tactic(auto, unfolding(crate::specs::Checks::room_check))]
 pub fn room(direction: Direction, mode: CipherMode, n: usize, room: usize) -> Checked
-    requires { ⌜ dataCheck direction mode n ≡ Checked.Passed ⌝ }
-    ensures { λ r. ⌜ r ≡ roomCheck direction mode n room ⌝ }
+    requires { data_check direction mode n ≡ Checked.Passed }
+    ensures { result ≡ room_check direction mode n room }
 {
     if room < room_of(direction, mode, n) {
         return Checked::Refused(Refusal::NoRoom);
@@ -199,6 +202,7 @@ pub fn room(direction: Direction, mode: CipherMode, n: usize, room: usize) -> Ch
 }
 
 // A message, either way: all stages.
+#[tactic(auto, unfolding(crate::specs::Checks::message_check))]
 pub fn message(
     answer: KeyAnswer,
     mark: bool,
@@ -206,7 +210,7 @@ pub fn message(
     mode: CipherMode,
     n: Lengths,
 ) -> Checked
-    ensures { λ r. ⌜ r ≡ messageCheck answer mark direction mode n ⌝ }
+    ensures { result ≡ message_check answer mark direction mode n }
 {
     let first = key_and_iv(answer, mark, direction, mode, n.iv);
     let Checked::Passed = first else {
@@ -224,8 +228,9 @@ pub fn message(
 }
 
 // A single block, either way.
+#[tactic(auto, unfolding(crate::specs::Checks::block_check))]
 pub fn block(answer: KeyAnswer, mark: bool, direction: Direction, n: usize, room: usize) -> Checked
-    ensures { λ r. ⌜ r ≡ blockCheck answer mark direction n room ⌝ }
+    ensures { result ≡ block_check answer mark direction n room }
 {
     let first = key(answer);
     let Checked::Passed = first else {

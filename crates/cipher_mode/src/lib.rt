@@ -1,20 +1,24 @@
 // The public calls of libsm's `cipher.rs` and `cipher_mode.rs`. None has a `requires`: whatever the inputs are, the contract
 // gives the whole outcome, by one definition of `specs/Calls.antt`.
+
+#![tactic(auto)]
+
 pub mod answer;
 pub mod checks;
 mod work;
 
-ghost use mathlib.Core.Path.{_≡_};
-ghost use Rattle·cipher_mode·specs.specs.Answer.{outcome};
-ghost use Rattle·cipher_mode·specs.specs.Key.{noCipher, newCipher, retire, withEngine, numberIn, newCipherMode};
-ghost use Rattle·cipher_mode·specs.specs.Engines.{forwards, waits, engineFor};
-ghost use Rattle·cipher_mode·specs.specs.Tables.{modeOf};
-ghost use Rattle·cipher_mode·specs.specs.Calls.{blockCall, modeCall};
+ghost use Rattle.std.specs.Prelude.{◌≡◌};
+ghost use Rattle.cipher_mode.specs.Answer.{outcome};
+ghost use Rattle.cipher_mode.specs.Key.{no_cipher, new_cipher, retire, with_engine, number_in, new_cipher_mode};
+ghost use Rattle.cipher_mode.specs.Engines.{forwards, waits, engine_for};
+ghost use Rattle.cipher_mode.specs.Tables.{mode_of};
+ghost use Rattle.cipher_mode.specs.Calls.{block_call, mode_call};
+
 use answer::Answer;
-use checks::Checked;
-use checks::Lengths;
+use checks::{Checked, Lengths};
 
 // What setting up a key answers.
+#[derive(Clone, Copy)]
 pub enum KeyAnswer {
     Key,
     ErrorBlockSize,
@@ -23,6 +27,7 @@ pub enum KeyAnswer {
 
 // Round keys, beside the answer that says whether they are a key's; the key's number, whether it is retired, and the mark of the
 // engine that its rounds go by, which no outcome tells.
+#[derive(Clone, Copy)]
 pub struct Sm4Cipher {
     pub rk: [u32; 32],
     pub answer: KeyAnswer,
@@ -31,6 +36,7 @@ pub struct Sm4Cipher {
     pub engine: u8,
 }
 
+#[derive(Clone, Copy)]
 pub enum CipherMode {
     Cfb,
     Ofb,
@@ -39,12 +45,14 @@ pub enum CipherMode {
     Gcm,
 }
 
+#[derive(Clone, Copy)]
 pub enum Direction {
     Encrypt,
     Decrypt,
 }
 
 // A key's record with the mode that it is used in.
+#[derive(Clone, Copy)]
 pub struct Sm4CipherMode {
     pub cipher: Sm4Cipher,
     pub mode: CipherMode,
@@ -52,7 +60,7 @@ pub struct Sm4CipherMode {
 
 // The number that the answers repeat of a record with this answer: 0 where no key stands.
 pub fn number_in(answer: KeyAnswer, number: u16) -> u16
-    ensures { λ r. ⌜ r ≡ numberIn answer number ⌝ }
+    ensures { result ≡ number_in answer number }
 {
     match answer {
         KeyAnswer::Key => number,
@@ -62,8 +70,9 @@ pub fn number_in(answer: KeyAnswer, number: u16) -> u16
 }
 
 // The mode of a number; 4 and above are Gcm, and who has a number refuses what is above.
+#[tactic(auto, unfolding(crate::specs::Tables::mode_of))]
 pub fn mode_of(mode: u32) -> CipherMode
-    ensures { λ r. ⌜ r ≡ modeOf mode ⌝ }
+    ensures { result ≡ mode_of mode }
 {
     match mode {
         0 => CipherMode::Cfb,
@@ -75,7 +84,7 @@ pub fn mode_of(mode: u32) -> CipherMode
 }
 
 fn forwards(direction: Direction) -> bool
-    ensures { λ r. ⌜ r ≡ forwards direction ⌝ }
+    ensures { result ≡ forwards direction }
 {
     match direction {
         Direction::Encrypt => true,
@@ -85,7 +94,7 @@ fn forwards(direction: Direction) -> bool
 
 // Whether each block of a message waits for the one before it.
 fn waits(mode: CipherMode, direction: Direction) -> bool
-    ensures { λ r. ⌜ r ≡ waits mode direction ⌝ }
+    ensures { result ≡ waits mode direction }
 {
     match mode {
         CipherMode::Cfb => forwards(direction),
@@ -98,14 +107,14 @@ fn waits(mode: CipherMode, direction: Direction) -> bool
 
 // The engine that a message goes by under a mark.
 pub fn engine_for(mark: u8, mode: CipherMode, direction: Direction) -> u8
-    ensures { λ r. ⌜ r ≡ engineFor mark mode direction ⌝ }
+    ensures { result ≡ engine_for mark mode direction }
 {
     cipher::engine_of(mark, waits(mode, direction))
 }
 
 // A record that every call refuses.
 fn no_cipher(answer: KeyAnswer) -> Sm4Cipher
-    ensures { λ r. ⌜ r ≡ noCipher answer ⌝ }
+    ensures { result ≡ no_cipher answer }
 {
     Sm4Cipher {
         rk: [0u32; 32],
@@ -118,8 +127,9 @@ fn no_cipher(answer: KeyAnswer) -> Sm4Cipher
 
 impl Sm4Cipher {
     // The record of a new key: 16 bytes, and a number from 1 to 65,535.
+    #[tactic(auto, unfolding(crate::specs::Key::new_cipher))]
     pub fn new(key: &[u8], number: u32) -> Sm4Cipher
-        ensures { λ r. ⌜ r ≡ newCipher (now (key .entry)) number ⌝ }
+        ensures { result ≡ new_cipher key.now number }
     {
         if key.len() != 16 {
             return no_cipher(KeyAnswer::ErrorBlockSize);
@@ -141,8 +151,9 @@ impl Sm4Cipher {
     }
 
     // The record retired: it decrypts and encrypts no more. There is no way back. What is no key stays what it was.
+    #[tactic(auto, unfolding(crate::specs::Key::retire))]
     pub fn retire(self) -> Sm4Cipher
-        ensures { λ r. ⌜ r ≡ retire self ⌝ }
+        ensures { result ≡ retire self }
     {
         let answer = self.answer;
         let KeyAnswer::Key = answer else {
@@ -162,8 +173,9 @@ impl Sm4Cipher {
 
     // The record with the mark of an engine: `cipher::FOUR_TABLES`, `cipher::GATES` or `cipher::PLAIN`, and under all else the library
     // chooses.
+    #[tactic(auto, unfolding(crate::specs::Key::with_engine))]
     pub fn with_engine(self, engine: u8) -> Sm4Cipher
-        ensures { λ r. ⌜ r ≡ withEngine engine self ⌝ }
+        ensures { result ≡ with_engine engine self }
     {
         let rk = self.rk;
         let answer = self.answer;
@@ -178,7 +190,7 @@ impl Sm4Cipher {
 
     // One block, either way, to the front of `out`.
     pub fn call(self, direction: Direction, block_in: &[u8], out: &mut [u8]) -> Answer
-        ensures { λ r. ⌜ outcome r (now (out .exit)) ≡ blockCall direction self (now («block_in» .entry)) (now (out .entry)) ⌝ }
+        ensures { outcome result out.new ≡ block_call direction self block_in.now out.old }
     {
         let stands = self.answer;
         let key = number_in(stands, self.number);
@@ -193,22 +205,23 @@ impl Sm4Cipher {
 
     // One block, encrypted to the front of `out`.
     pub fn encrypt(self, block_in: &[u8], out: &mut [u8]) -> Answer
-        ensures { λ r. ⌜ outcome r (now (out .exit)) ≡ blockCall Direction.Encrypt self (now («block_in» .entry)) (now (out .entry)) ⌝ }
+        ensures { outcome result out.new ≡ block_call Direction.Encrypt self block_in.now out.old }
     {
         self.call(Direction::Encrypt, block_in, out)
     }
 
     // One block, decrypted to the front of `out`.
     pub fn decrypt(self, block_in: &[u8], out: &mut [u8]) -> Answer
-        ensures { λ r. ⌜ outcome r (now (out .exit)) ≡ blockCall Direction.Decrypt self (now («block_in» .entry)) (now (out .entry)) ⌝ }
+        ensures { outcome result out.new ≡ block_call Direction.Decrypt self block_in.now out.old }
     {
         self.call(Direction::Decrypt, block_in, out)
     }
 }
 
 impl Sm4CipherMode {
+    #[tactic(auto, unfolding(crate::specs::Key::new_cipher_mode))]
     pub fn new(key: &[u8], number: u32, mode: CipherMode) -> Sm4CipherMode
-        ensures { λ r. ⌜ r ≡ newCipherMode (now (key .entry)) number mode ⌝ }
+        ensures { result ≡ new_cipher_mode key.now number mode }
     {
         let cipher = Sm4Cipher::new(key, number);
         Sm4CipherMode { cipher, mode }
@@ -224,7 +237,7 @@ impl Sm4CipherMode {
         iv: &[u8],
         out: &mut [u8],
     ) -> Answer
-        ensures { λ r. ⌜ outcome r (now (out .exit)) ≡ modeCall direction self (now (aad .entry)) (now («data» .entry)) (now (iv .entry)) (now (out .entry)) ⌝ }
+        ensures { outcome result out.new ≡ mode_call direction self aad.now «data».now iv.now out.old }
     {
         let cipher = self.cipher;
         let stands = cipher.answer;
@@ -253,14 +266,14 @@ impl Sm4CipherMode {
 
     // Encrypts `data` to the front of `out`, under the label `aad` in Gcm. The other modes do not look at `aad`.
     pub fn encrypt(self, aad: &[u8], data: &[u8], iv: &[u8], out: &mut [u8]) -> Answer
-        ensures { λ r. ⌜ outcome r (now (out .exit)) ≡ modeCall Direction.Encrypt self (now (aad .entry)) (now («data» .entry)) (now (iv .entry)) (now (out .entry)) ⌝ }
+        ensures { outcome result out.new ≡ mode_call Direction.Encrypt self aad.now «data».now iv.now out.old }
     {
         self.call(Direction::Encrypt, aad, data, iv, out)
     }
 
     // Decrypts `data` to the front of `out`. In Gcm and Cbc nothing is written before tag or padding is settled.
     pub fn decrypt(self, aad: &[u8], data: &[u8], iv: &[u8], out: &mut [u8]) -> Answer
-        ensures { λ r. ⌜ outcome r (now (out .exit)) ≡ modeCall Direction.Decrypt self (now (aad .entry)) (now («data» .entry)) (now (iv .entry)) (now (out .entry)) ⌝ }
+        ensures { outcome result out.new ≡ mode_call Direction.Decrypt self aad.now «data».now iv.now out.old }
     {
         self.call(Direction::Decrypt, aad, data, iv, out)
     }

@@ -1,29 +1,23 @@
 // What is done once nothing stands against it: bytes to bytes.
-ghost use mathlib.Core.Path.{_≡_};
-ghost use mathlib.Core.Bool.{cond, false};
-ghost use mathlib.Core.List.{_++_};
-ghost use Prim.Native.Nat.{_-_, _≤_};
-ghost use lib.ListN.{length, drop};
-ghost use Rattle·cipher.specs.Engine.{Engine};
-ghost use Rattle·counter.specs.CameRound.{blocksOf, ctrCameRound};
-ghost use Rattle·walk.specs.Walk.{chain};
-ghost use Rattle·stream.specs.Stream.{streamMode};
-ghost use Rattle·cipher_mode·specs.specs.Outcome.{finished, refusal, telling, reporting, done};
-ghost use Rattle·cipher_mode·specs.specs.Tables.{roomOf};
-ghost use Rattle·cipher_mode·specs.specs.Answer.{endingHead, ended, workedHead, worked};
-ghost use Rattle·cipher_mode·specs.specs.Checks.{wrongIv, labelCheck, dataCheck};
-ghost use Rattle·cipher_mode·specs.specs.Calls.{keysFor, blockOf, cfbKind, cbcHead, cbcResult, gcmResult, modeResult};
-use crate::CipherMode;
-use crate::Direction;
-use crate::answer::Ending;
-use crate::answer::Refusal;
-use crate::checks;
+ghost use Rattle.std.specs.Prelude.{◌≡◌, cond, false, ◌++◌, ◌-◌, ◌≤◌, length, drop};
+ghost use Rattle.cipher.specs.Engine.{Engine};
+ghost use Rattle.counter.specs.CameRound.{blocks_of, ctr_came_round};
+ghost use Rattle.walk.specs.Walk.{chain};
+ghost use Rattle.stream.specs.Stream.{stream_mode};
+ghost use Rattle.cipher_mode.specs.Outcome.{finished, refusal, telling, reporting, done};
+ghost use Rattle.cipher_mode.specs.Tables.{room_of};
+ghost use Rattle.cipher_mode.specs.Answer.{ending_head, ended, worked_head, worked};
+ghost use Rattle.cipher_mode.specs.Checks.{wrong_iv, label_check, data_check};
+ghost use Rattle.cipher_mode.specs.Calls.{keys_for, block_of, cfb_kind, cbc_head, cbc_result, gcm_result, mode_result};
+
+use crate::answer::{Ending, Refusal};
 use crate::checks::Checked;
-use crate::engine_for;
+use crate::{CipherMode, Direction, checks, engine_for};
 use padding::Opened;
 use stream::Kind;
 
 // How work ended, and whether the counter of the message came round.
+#[derive(Drop)]
 pub struct Worked {
     pub ending: Ending,
     pub came_round: bool,
@@ -31,7 +25,7 @@ pub struct Worked {
 
 // Work that has no counter.
 fn quiet(ending: Ending) -> Worked
-    ensures { λ r. ⌜ workedHead r ≡ endingHead ending ⌝ }
+    ensures { worked_head result ≡ ending_head ending }
 {
     Worked {
         ending,
@@ -41,7 +35,7 @@ fn quiet(ending: Ending) -> Worked
 
 // The round keys in the order that a direction takes them.
 fn keys_for(rk: [u32; 32], direction: Direction) -> [u32; 32]
-    ensures { λ r. ⌜ r ≡ keysFor direction rk ⌝ }
+    ensures { result ≡ keys_for direction rk }
 {
     match direction {
         Direction::Encrypt => rk,
@@ -51,9 +45,9 @@ fn keys_for(rk: [u32; 32], direction: Direction) -> [u32; 32]
 
 // A single block, which has none beside it.
 pub(crate) fn block(mark: u8, rk: [u32; 32], direction: Direction, block_in: &[u8], out: &mut [u8])
-    requires { ⌜ length (now «block_in») ≡ 16 ⌝ }
-    requires { ⌜ 16 ≤ length (now out) ⌝ }
-    ensures { λ _. ⌜ now (out .exit) ≡ blockOf direction rk (now («block_in» .entry)) ++ drop 16 (now (out .entry)) ⌝ }
+    requires block_in_len { length block_in.now ≡ 16 }
+    requires in_bounds { 16 ≤ length out.old }
+    ensures { out.new ≡ block_of direction rk block_in.now ++ drop 16 out.old }
 {
     let keys = keys_for(rk, direction);
     let engine = cipher::engine_of(mark, true);
@@ -65,7 +59,7 @@ pub(crate) fn block(mark: u8, rk: [u32; 32], direction: Direction, block_in: &[u
 
 // Cfb has a kind for each direction; Ofb and Ctr are their own opposite.
 fn cfb_kind(direction: Direction) -> Kind
-    ensures { λ r. ⌜ r ≡ cfbKind direction ⌝ }
+    ensures { result ≡ cfb_kind direction }
 {
     match direction {
         Direction::Encrypt => Kind::CfbEncrypt,
@@ -75,10 +69,10 @@ fn cfb_kind(direction: Direction) -> Kind
 
 // Cfb, Ofb and Ctr, either way.
 fn by_stream(t: &[u32], rk: [u32; 32], kind: Kind, iv: &[u8], data: &[u8], out: &mut [u8]) -> Ending
-    requires { ⌜ Engine (now t) ⌝ }
-    requires { ⌜ length (now iv) ≡ 16 ⌝ }
-    requires { ⌜ length (now «data») ≤ length (now out) ⌝ }
-    ensures { λ r. ⌜ ended r (now (out .exit)) ≡ done (chain (streamMode kind rk) (now (iv .entry)) (now («data» .entry))) (now (out .entry)) ⌝ }
+    requires engine { Engine t.now }
+    requires iv_len { length iv.now ≡ 16 }
+    requires data_in_bounds { length «data».now ≤ length out.old }
+    ensures { ended result out.new ≡ done (chain (stream_mode kind rk) iv.now «data».now) out.old }
 {
     stream::stream(t, rk, kind, block::split_block(iv), false, data, out);
     Ending::Done(data.len())
@@ -86,10 +80,10 @@ fn by_stream(t: &[u32], rk: [u32; 32], kind: Kind, iv: &[u8], data: &[u8], out: 
 
 // Ctr, either way.
 fn by_ctr(t: &[u32], rk: [u32; 32], iv: &[u8], data: &[u8], out: &mut [u8]) -> Worked
-    requires { ⌜ Engine (now t) ⌝ }
-    requires { ⌜ length (now iv) ≡ 16 ⌝ }
-    requires { ⌜ length (now «data») ≤ length (now out) ⌝ }
-    ensures { λ r. ⌜ worked r (now (out .exit)) ≡ reporting (ctrCameRound (now (iv .entry)) (blocksOf (length (now («data» .entry))))) (done (chain (streamMode Kind.Ctr rk) (now (iv .entry)) (now («data» .entry))) (now (out .entry))) ⌝ }
+    requires engine { Engine t.now }
+    requires iv_len { length iv.now ≡ 16 }
+    requires data_in_bounds { length «data».now ≤ length out.old }
+    ensures { worked result out.new ≡ reporting (ctr_came_round iv.now (blocks_of (length «data».now))) (done (chain (stream_mode Kind.Ctr rk) iv.now «data».now) out.old) }
 {
     let ending = by_stream(t, rk, Kind::Ctr, iv, data, out);
     Worked {
@@ -99,7 +93,7 @@ fn by_ctr(t: &[u32], rk: [u32; 32], iv: &[u8], data: &[u8], out: &mut [u8]) -> W
 }
 
 fn cbc_answer(opened: Opened) -> Ending
-    ensures { λ r. ⌜ endingHead r ≡ cbcHead opened ⌝ }
+    ensures { ending_head result ≡ cbc_head opened }
 {
     match opened {
         Opened::Done(n) => Ending::Done(n),
@@ -116,11 +110,11 @@ fn by_cbc(
     data: &[u8],
     out: &mut [u8],
 ) -> Ending
-    requires { ⌜ Engine (now t) ⌝ }
-    requires { ⌜ length (now iv) ≡ 16 ⌝ }
-    requires { ⌜ dataCheck direction CipherMode.Cbc (length (now «data»)) ≡ Checked.Passed ⌝ }
-    requires { ⌜ roomOf CipherMode.Cbc direction (length (now «data»)) ≤ length (now out) ⌝ }
-    ensures { λ r. ⌜ ended r (now (out .exit)) ≡ cbcResult direction rk (now («data» .entry)) (now (iv .entry)) (now (out .entry)) ⌝ }
+    requires engine { Engine t.now }
+    requires iv_len { length iv.now ≡ 16 }
+    requires data_value { data_check direction CipherMode.Cbc (length «data».now) ≡ Checked.Passed }
+    requires data_in_bounds { room_of CipherMode.Cbc direction (length «data».now) ≤ length out.old }
+    ensures { ended result out.new ≡ cbc_result direction rk «data».now iv.now out.old }
 {
     let start = block::split_block(iv);
     match direction {
@@ -134,7 +128,7 @@ fn by_cbc(
 
 // How opening ended: with a text of n bytes, and whether the counter came round; or refused.
 fn gcm_answer(opened: bool, n: usize, came_round: bool) -> Worked
-    ensures { λ r. ⌜ workedHead r ≡ cond opened (telling «came_round» (finished n)) (refusal 4) ⌝ }
+    ensures { worked_head result ≡ cond opened (telling came_round (finished n)) (refusal 4) }
 {
     if opened {
         return Worked {
@@ -147,8 +141,8 @@ fn gcm_answer(opened: bool, n: usize, came_round: bool) -> Worked
 
 // How many bytes of a Gcm message of n bytes are its text: a sealed one has its tag behind it.
 fn text_length(direction: Direction, n: usize) -> usize
-    requires { ⌜ (direction ≡ Direction.Decrypt → 16 ≤ n) ⌝ }
-    ensures { λ r. ⌜ (direction ≡ Direction.Encrypt → r ≡ n) × (direction ≡ Direction.Decrypt → r ≡ n - 16) ⌝ }
+    requires { direction ≡ Direction.Decrypt → 16 ≤ n }
+    ensures { (direction ≡ Direction.Encrypt → result ≡ n) × (direction ≡ Direction.Decrypt → result ≡ n - 16) }
 {
     match direction {
         Direction::Encrypt => n,
@@ -165,12 +159,12 @@ fn by_gcm(
     iv: &[u8],
     out: &mut [u8],
 ) -> Worked
-    requires { ⌜ Engine (now t) ⌝ }
-    requires { ⌜ wrongIv CipherMode.Gcm (length (now iv)) ≡ false ⌝ }
-    requires { ⌜ labelCheck CipherMode.Gcm (length (now aad)) ≡ Checked.Passed ⌝ }
-    requires { ⌜ dataCheck direction CipherMode.Gcm (length (now «data»)) ≡ Checked.Passed ⌝ }
-    requires { ⌜ roomOf CipherMode.Gcm direction (length (now «data»)) ≤ length (now out) ⌝ }
-    ensures { λ r. ⌜ worked r (now (out .exit)) ≡ gcmResult direction rk (now (aad .entry)) (now («data» .entry)) (now (iv .entry)) (now (out .entry)) ⌝ }
+    requires engine { Engine t.now }
+    requires iv_value { wrong_iv CipherMode.Gcm (length iv.now) ≡ false }
+    requires aad_value { label_check CipherMode.Gcm (length aad.now) ≡ Checked.Passed }
+    requires data_value { data_check direction CipherMode.Gcm (length «data».now) ≡ Checked.Passed }
+    requires data_in_bounds { room_of CipherMode.Gcm direction (length «data».now) ≤ length out.old }
+    ensures { worked result out.new ≡ gcm_result direction rk aad.now «data».now iv.now out.old }
 {
     let n = text_length(direction, data.len());
     let begun = gcm::start(t, rk, iv, n);
@@ -204,12 +198,12 @@ fn message(
     iv: &[u8],
     out: &mut [u8],
 ) -> Worked
-    requires { ⌜ Engine (now t) ⌝ }
-    requires { ⌜ wrongIv mode (length (now iv)) ≡ false ⌝ }
-    requires { ⌜ labelCheck mode (length (now aad)) ≡ Checked.Passed ⌝ }
-    requires { ⌜ dataCheck direction mode (length (now «data»)) ≡ Checked.Passed ⌝ }
-    requires { ⌜ roomOf mode direction (length (now «data»)) ≤ length (now out) ⌝ }
-    ensures { λ r. ⌜ worked r (now (out .exit)) ≡ modeResult mode direction rk (now (aad .entry)) (now («data» .entry)) (now (iv .entry)) (now (out .entry)) ⌝ }
+    requires engine { Engine t.now }
+    requires iv_value { wrong_iv mode (length iv.now) ≡ false }
+    requires aad_value { label_check mode (length aad.now) ≡ Checked.Passed }
+    requires data_value { data_check direction mode (length «data».now) ≡ Checked.Passed }
+    requires data_in_bounds { room_of mode direction (length «data».now) ≤ length out.old }
+    ensures { worked result out.new ≡ mode_result mode direction rk aad.now «data».now iv.now out.old }
 {
     match mode {
         CipherMode::Cfb => quiet(by_stream(t, rk, cfb_kind(direction), iv, data, out)),
@@ -231,11 +225,11 @@ pub(crate) fn message_by(
     iv: &[u8],
     out: &mut [u8],
 ) -> Worked
-    requires { ⌜ wrongIv mode (length (now iv)) ≡ false ⌝ }
-    requires { ⌜ labelCheck mode (length (now aad)) ≡ Checked.Passed ⌝ }
-    requires { ⌜ dataCheck direction mode (length (now «data»)) ≡ Checked.Passed ⌝ }
-    requires { ⌜ roomOf mode direction (length (now «data»)) ≤ length (now out) ⌝ }
-    ensures { λ r. ⌜ worked r (now (out .exit)) ≡ modeResult mode direction rk (now (aad .entry)) (now («data» .entry)) (now (iv .entry)) (now (out .entry)) ⌝ }
+    requires iv_value { wrong_iv mode (length iv.now) ≡ false }
+    requires aad_value { label_check mode (length aad.now) ≡ Checked.Passed }
+    requires data_value { data_check direction mode (length «data».now) ≡ Checked.Passed }
+    requires data_in_bounds { room_of mode direction (length «data».now) ≤ length out.old }
+    ensures { worked result out.new ≡ mode_result mode direction rk aad.now «data».now iv.now out.old }
 {
     let engine = engine_for(mark, mode, direction);
     let t = cipher::laid_out(engine);

@@ -1,13 +1,10 @@
 -- The S-box of SM4, GB/T 32907-2016: its table, and the same in the lanes of words.
-use Prim.Native.Nat.{ℕ, _<_}
-use mathlib.Core.Path.{_≡_}
-use mathlib.Core.List.{List, [], _∷_}
-use lib.ListN.{getD}
-use Rattle·lanes.specs.Bits.{byteLane}
+use Rattle.std.specs.Prelude.{ℕ, ◌<◌, ◌≡◌, List, [], ◌∷◌, get_or}
+use Rattle.lanes.specs.Bits.{byte_lane}
 
 -- the entries, that of 0 first
-unfoldable pub sboxTable : List ℕ
-sboxTable =
+unfoldable pub sbox_table : List ℕ
+sbox_table =
     0xd6 ∷ 0x90 ∷ 0xe9 ∷ 0xfe ∷ 0xcc ∷ 0xe1 ∷ 0x3d ∷ 0xb7 ∷ 0x16 ∷ 0xb6 ∷ 0x14 ∷ 0xc2 ∷ 0x28 ∷ 0xfb ∷ 0x2c ∷ 0x05 ∷
     0x2b ∷ 0x67 ∷ 0x9a ∷ 0x76 ∷ 0x2a ∷ 0xbe ∷ 0x04 ∷ 0xc3 ∷ 0xaa ∷ 0x44 ∷ 0x13 ∷ 0x26 ∷ 0x49 ∷ 0x86 ∷ 0x06 ∷ 0x99 ∷
     0x9c ∷ 0x42 ∷ 0x50 ∷ 0xf4 ∷ 0x91 ∷ 0xef ∷ 0x98 ∷ 0x7a ∷ 0x33 ∷ 0x54 ∷ 0x0b ∷ 0x43 ∷ 0xed ∷ 0xcf ∷ 0xac ∷ 0x62 ∷
@@ -26,8 +23,8 @@ sboxTable =
     0x18 ∷ 0xf0 ∷ 0x7d ∷ 0xec ∷ 0x3a ∷ 0xdc ∷ 0x4d ∷ 0x20 ∷ 0x79 ∷ 0xee ∷ 0x5f ∷ 0x3e ∷ 0xd7 ∷ 0xcb ∷ 0x39 ∷ 0x48 ∷ []
 
 abbrev pub Sbox : ℕ → ℕ
-Sbox b = getD sboxTable b 0
+Sbox b = get_or sbox_table b 0
 
 -- in each of 64 lanes r has the S-box's entry for what x has there
 abbrev pub SboxLanes : List ℕ → List ℕ → Type 0
-SboxLanes x r = (n : ℕ) → n < 64 → byteLane r n ≡ Sbox (byteLane x n)
+SboxLanes x r = (n : ℕ) → n < 64 → byte_lane r n ≡ Sbox (byte_lane x n)

@@ -1,9 +1,12 @@
 // The S-box as exclusive ors and ands, with neither a look-up nor a branch.
-ghost use Rattle·circuit·specs.specs.Sbox.{SboxLanes};
+
+#![tactic(auto)]
+
+ghost use Rattle.circuit.specs.Sbox.{SboxLanes};
 
 // The S-box in 64 lanes at once: bit n of the eight words is a byte, its bit i in word i.
 pub fn sbox(x: [u64; 8]) -> [u64; 8]
-    ensures { λ r. ⌜ SboxLanes x r ⌝ }
+    ensures { SboxLanes x result }
 {
     let ones: u64 = 0xffff_ffff_ffff_ffff;
     let x0 = x[7];

@@ -1,48 +1,48 @@
 -- A jump is as many steps, Ctr's and GCM's: none leaves the counter, and one more may be the first. Both count in the last w bytes of a
 -- block and keep the p bytes before these: Ctr's w is sixteen, GCM's four.
-use Rattle·block.proofs.Base.{_%_, _+_, _<_, _^_, _≤_, suc, ℕ, _≡_, List, _++_, add-zero, mod-add-mod, mod-eq-of-lt, mod-mod}
-use Rattle·block.proofs.Base.{arith, drop, length, length-drop, take, take-append-drop, drop-at, length-take-le, take-at}
-use Rattle·block.specs.Below.{AreBytes}
-use Rattle·block.specs.BigEndian.{numberOf, bytesOf}
-use Rattle·block.proofs.Entries.{below-drop}
-use Rattle·block.proofs.Convert.{numberOf-lt, numberOf-bytesOf, bytesOf-numberOf}
-use Rattle·counter·specs.specs.Counter.{ctrJump, ctrNext, gcmJump, gcmNext}
+use Rattle.block.proofs.Base.{◌%◌, ◌+◌, ◌<◌, ◌^◌, ◌≤◌, suc, ℕ, ◌≡◌, List, ◌++◌, add-zero, mod-add-mod, mod-eq_of_lt, mod-mod}
+use Rattle.block.proofs.Base.{arith, drop, length, length-drop, take, take-append-drop, drop_at, length-take-le, take_at}
+use Rattle.block.specs.Below.{AreBytes}
+use Rattle.block.specs.BigEndian.{number_of, bytes_of}
+use Rattle.block.proofs.Entries.{below-drop}
+use Rattle.block.proofs.Convert.{number_of-lt, number_of-bytes_of, bytes_of-number_of}
+use Rattle.counter.specs.Counter.{ctr_jump, ctr_next, gcm_jump, gcm_next}
 
 -- k more in the last w bytes
-abbrev pub jumpIn : ℕ → ℕ → List ℕ → ℕ → List ℕ
-jumpIn p w c k = take p c ++ bytesOf w ((numberOf (drop p c) + k) % 256 ^ w)
+abbrev pub jump_in : ℕ → ℕ → List ℕ → ℕ → List ℕ
+jump_in p w c k = take p c ++ bytes_of w ((number_of (drop p c) + k) % 256 ^ w)
 
 module _ (p w : ℕ) (c : List ℕ) where
-  pub last-lt : length c ≡ p + w → AreBytes c → numberOf (drop p c) < 256 ^ w
+  pub last-lt : length c ≡ p + w → AreBytes c → number_of (drop p c) < 256 ^ w
   last-lt n a =
-      let l : length (drop p c) ≡ w = simp length-drop (omega arith) in rw l at (numberOf-lt (drop p c) (below-drop 256 p c a))
+      let l : length (drop p c) ≡ w = simp length-drop (omega arith) in rw l at (number_of-lt (drop p c) (below-drop 256 p c a))
 
-  none : length c ≡ p + w → AreBytes c → jumpIn p w c 0 ≡ c
+  none : length c ≡ p + w → AreBytes c → jump_in p w c 0 ≡ c
   none n a =
       let l : length (drop p c) ≡ w = simp length-drop (omega arith) in
-      rw (add-zero, mod-eq-of-lt (last-lt n a), rw l at (bytesOf-numberOf (drop p c) (below-drop 256 p c a))) (take-append-drop p c)
+      rw (add-zero, mod-eq_of_lt (last-lt n a), rw l at (bytes_of-number_of (drop p c) (below-drop 256 p c a))) (take-append-drop p c)
 
   -- the number in them afterwards
-  pub jump-last : p ≤ length c → (k : ℕ) → numberOf (drop p (jumpIn p w c k)) ≡ (numberOf (drop p c) + k) % 256 ^ w
-  jump-last h k = rw (drop-at (take p c) _ p (length-take-le p c h), numberOf-bytesOf w) (mod-mod _ (256 ^ w))
+  pub jump-last : p ≤ length c → (k : ℕ) → number_of (drop p (jump_in p w c k)) ≡ (number_of (drop p c) + k) % 256 ^ w
+  jump-last h k = rw (drop_at (take p c) _ p (length-take-le p c h), number_of-bytes_of w) (mod-mod _ (256 ^ w))
 
-  one-more : p ≤ length c → (k : ℕ) → jumpIn p w (jumpIn p w c 1) k ≡ jumpIn p w c (suc k)
-  one-more h k =
-      let sum : numberOf (drop p c) + 1 + k ≡ numberOf (drop p c) + suc k = omega arith in
-      rw (take-at (take p c) _ p (length-take-le p c h), jump-last h 1, mod-add-mod, sum)
+  one_more : p ≤ length c → (k : ℕ) → jump_in p w (jump_in p w c 1) k ≡ jump_in p w c (suc k)
+  one_more h k =
+      let sum : number_of (drop p c) + 1 + k ≡ number_of (drop p c) + suc k = omega arith in
+      rw (take_at (take p c) _ p (length-take-le p c h), jump-last h 1, mod-add-mod, sum)
 
-pub no-jump : (c : List ℕ) → length c ≡ 16 → AreBytes c → ctrJump c 0 ≡ c
-unfolding ctrJump
-no-jump = none 0 16
+pub no_jump : (c : List ℕ) → length c ≡ 16 → AreBytes c → ctr_jump c 0 ≡ c
+unfolding ctr_jump
+no_jump = none 0 16
 
-pub jump-on : (c : List ℕ) (k : ℕ) → ctrJump (ctrNext c) k ≡ ctrJump c (suc k)
-unfolding ctrJump ctrNext
-jump-on c k = one-more 0 16 c (omega arith) k
+pub jump_on : (c : List ℕ) (k : ℕ) → ctr_jump (ctr_next c) k ≡ ctr_jump c (suc k)
+unfolding ctr_jump ctr_next
+jump_on c k = one_more 0 16 c (omega arith) k
 
-pub no-gcm-jump : (c : List ℕ) → length c ≡ 16 → AreBytes c → gcmJump c 0 ≡ c
-unfolding gcmJump
-no-gcm-jump = none 12 4
+pub no_gcm-jump : (c : List ℕ) → length c ≡ 16 → AreBytes c → gcm_jump c 0 ≡ c
+unfolding gcm_jump
+no_gcm-jump = none 12 4
 
-pub gcm-jump-on : (c : List ℕ) (k : ℕ) → length c ≡ 16 → gcmJump (gcmNext c) k ≡ gcmJump c (suc k)
-unfolding gcmJump gcmNext
-gcm-jump-on c k n = one-more 12 4 c (omega arith) k
+pub gcm-jump_on : (c : List ℕ) (k : ℕ) → length c ≡ 16 → gcm_jump (gcm_next c) k ≡ gcm_jump c (suc k)
+unfolding gcm_jump gcm_next
+gcm-jump_on c k n = one_more 12 4 c (omega arith) k

@@ -1,23 +1,20 @@
 -- Whether the counter of a whole message came round: the formula of W8, over b blocks of data.
-use Prim.Native.Nat.{ℕ, zero, suc, _+_, _-_, _/_, _^_}
-use mathlib.Core.Bool.{Bool, false, _&&_, _||_}
-use mathlib.Core.List.{List}
-use lib.Dec.{leb}
-use Rattle·block.specs.BigEndian.{numberOf}
+use Rattle.std.specs.Prelude.{ℕ, zero, suc, ◌+◌, ◌-◌, ◌/◌, ◌^◌, Bool, false, ◌&&◌, ◌||◌, List, nat_le}
+use Rattle.block.specs.BigEndian.{number_of}
 
 -- the blocks of n bytes, rounded up
-abbrev pub blocksOf : ℕ → ℕ
-blocksOf n = (n + 15) / 16
+abbrev pub blocks_of : ℕ → ℕ
+blocks_of n = (n + 15) / 16
 
 -- Ctr: b is at least 1, and the IV as a number plus b - 1 reaches 2^128
-unfoldable pub ctrCameRound : List ℕ → ℕ → Bool
-ctrCameRound iv b = leb 1 b && leb (2 ^ 128) (numberOf iv + (b - 1))
+unfoldable pub ctr_came_round : List ℕ → ℕ → Bool
+ctr_came_round iv b = nat_le 1 b && nat_le (2 ^ 128) (number_of iv + (b - 1))
 
 -- GCM: the number in J0's last four bytes plus b reaches 2^32
-unfoldable pub gcmCameRound : ℕ → ℕ → Bool
-gcmCameRound low b = leb (2 ^ 32) (low + b)
+unfoldable pub gcm_came_round : ℕ → ℕ → Bool
+gcm_came_round low b = nat_le (2 ^ 32) (low + b)
 
 -- what the steps themselves say: whether one of the first n steps from the counter c on passes
-unfoldable pub anyPasses : (List ℕ → List ℕ) → (List ℕ → Bool) → ℕ → List ℕ → Bool
-anyPasses next passes zero c = false
-anyPasses next passes (suc n) c = passes c || anyPasses next passes n (next c)
+unfoldable pub any_passes : (List ℕ → List ℕ) → (List ℕ → Bool) → ℕ → List ℕ → Bool
+any_passes next passes zero c = false
+any_passes next passes (suc n) c = passes c || any_passes next passes n (next c)

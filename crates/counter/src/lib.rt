@@ -1,13 +1,16 @@
 // The two counter steps: `block_add_one` of libsm's `cipher_mode.rs`, `gcm_block_add_one` of its `gcm.rs`; and whether a
 // counter came round: over one step, and over a whole message.
-ghost use mathlib.Core.Path.{_≡_};
-ghost use Prim.Native.Nat.{_+_, _%_, _^_};
-ghost use Rattle·block.specs.Wide.{value};
-ghost use Rattle·block.specs.Words.{unwords};
-ghost use Rattle·counter·specs.specs.Counter.{ctrJump, ctrNext, ctrPasses, gcmJump, gcmNext, gcmPasses};
-ghost use Rattle·counter·specs.specs.CameRound.{blocksOf, ctrCameRound, gcmCameRound};
+
+#![tactic(auto)]
+
+ghost use Rattle.std.specs.Prelude.{◌≡◌, ◌+◌, ◌%◌, ◌^◌};
+ghost use Rattle.block.specs.Wide.{value};
+ghost use Rattle.block.specs.Words.{unwords};
+ghost use Rattle.counter.specs.Counter.{ctr_jump, ctr_next, ctr_passes, gcm_jump, gcm_next, gcm_passes};
+ghost use Rattle.counter.specs.CameRound.{blocks_of, ctr_came_round, gcm_came_round};
 
 // The next counter, and whether the step to it passed from all ones to zero.
+#[derive(Drop)]
 pub struct Next {
     pub counter: [u32; 4],
     pub came_round: bool,
@@ -15,7 +18,7 @@ pub struct Next {
 
 // So many more, with a carry from the low half to the high one.
 fn u128_add(n: block::U128, k: u64) -> block::U128
-    ensures { λ r. ⌜ value r ≡ (value n + k) % 2 ^ 128 ⌝ }
+    ensures { value result ≡ (value n + k) % 2 ^ 128 }
 {
     let low = std::num::wrapping_add_u64(n.low, k);
     if low < k {
@@ -29,8 +32,8 @@ fn u128_add(n: block::U128, k: u64) -> block::U128
 
 // Ctr's next counter: the sixteen bytes count as one number. It is zero exactly where it came round.
 pub fn block_add_one(a: [u32; 4]) -> Next
-    ensures { λ r. ⌜ unwords (r .counter) ≡ ctrNext (unwords a) ⌝ }
-    ensures { λ r. ⌜ r .«came_round» ≡ ctrPasses (unwords a) ⌝ }
+    ensures counter_value { unwords result.counter ≡ ctr_next (unwords a) }
+    ensures came_round_value { result.came_round ≡ ctr_passes (unwords a) }
 {
     let sum = u128_add(block::to_u128(a), 1);
     Next {
@@ -41,15 +44,15 @@ pub fn block_add_one(a: [u32; 4]) -> Next
 
 // Ctr's counter so many blocks on, without a step for each.
 pub fn jump(a: [u32; 4], blocks: u64) -> [u32; 4]
-    ensures { λ r. ⌜ unwords r ≡ ctrJump (unwords a) blocks ⌝ }
+    ensures { unwords result ≡ ctr_jump (unwords a) blocks }
 {
     block::from_u128(u128_add(block::to_u128(a), blocks))
 }
 
 // GCM's next counter: the last four bytes count, the first twelve are kept. The four are zero exactly where they came round.
 pub fn gcm_block_add_one(a: [u32; 4]) -> Next
-    ensures { λ r. ⌜ unwords (r .counter) ≡ gcmNext (unwords a) ⌝ }
-    ensures { λ r. ⌜ r .«came_round» ≡ gcmPasses (unwords a) ⌝ }
+    ensures counter_value { unwords result.counter ≡ gcm_next (unwords a) }
+    ensures came_round_value { result.came_round ≡ gcm_passes (unwords a) }
 {
     let low = std::num::wrapping_add_u32(a[3], 1);
     Next {
@@ -60,21 +63,21 @@ pub fn gcm_block_add_one(a: [u32; 4]) -> Next
 
 // GCM's counter so many blocks on.
 pub fn gcm_jump(a: [u32; 4], blocks: u32) -> [u32; 4]
-    ensures { λ r. ⌜ unwords r ≡ gcmJump (unwords a) blocks ⌝ }
+    ensures { unwords result ≡ gcm_jump (unwords a) blocks }
 {
     [a[0], a[1], a[2], std::num::wrapping_add_u32(a[3], blocks)]
 }
 
 // The blocks of n bytes, a rest counted as one.
 fn blocks(n: usize) -> usize
-    ensures { λ r. ⌜ r ≡ blocksOf n ⌝ }
+    ensures { result ≡ blocks_of n }
 {
     if n % 16 == 0 { n / 16 } else { n / 16 + 1 }
 }
 
 // Whether Ctr's counter came round over a message of n bytes: the step after its last block does not count.
 pub fn ctr_came_round(iv: [u32; 4], n: usize) -> bool
-    ensures { λ r. ⌜ r ≡ ctrCameRound (unwords iv) (blocksOf n) ⌝ }
+    ensures { result ≡ ctr_came_round (unwords iv) (blocks_of n) }
 {
     let b = blocks(n);
     if b == 0 {
@@ -86,7 +89,7 @@ pub fn ctr_came_round(iv: [u32; 4], n: usize) -> bool
 
 // Whether GCM's counter came round over a message of n bytes, where `low` is J0's last word: J0 itself is no block's.
 pub fn gcm_came_round(low: u32, n: usize) -> bool
-    ensures { λ r. ⌜ r ≡ gcmCameRound low (blocksOf n) ⌝ }
+    ensures { result ≡ gcm_came_round low (blocks_of n) }
 {
     blocks(n) > (u32::MAX - low) as usize
 }

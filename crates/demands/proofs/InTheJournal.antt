@@ -1,188 +1,198 @@
 -- The replay of a journal, as a host is told of it: demand 1, which number it ends with; two journals joined; and that calls which were
 -- recorded as they were answered agree.
-use Rattle·demands·specs.specs.Names as N
-use N.{false, true, List, [], _++_, _∷_, append-nil, inl, inr, ⊎-elim, _∙_, _≡_, ap, refl, sym, _<_, ℕ, getD, take-append-seam, _-_, arith}
-use N.{ltb, length, take, lt-ltb, AreBytes, Sm4Cipher, AllReplayable, Ends, NoneDiffers, Totals, countedAll, differs, Entry}
-use N.{stored·journal as stored, written·journal as written, added, behindReport, badKeys, keyOf·journal as keyOf, keysIn, answeredBy}
-use N.{callInto, recomputed, resultOf as result, done·journal as done, numberOfEnd, replay, nothing, write, Journal·end as Ended, BadKeys}
-use N.{BadRecord, Done·journal as Done, TooLong·journal as TooLong, UnknownKey, Replayed, Keys, Done·wrote, NoRoom·wrote as NoRoom}
-use N.{hostModeCall, hostReplay, keysOf, toldOf·journal as toldOf, LuossavinKeys}
-use Rattle·block.proofs.Same.{by-test}
-use Rattle·journal.proofs.Sums.{replay-adds-up, first-replayed}
-use Rattle·journal.proofs.Lent.{any-output-head, any-output-result}
-use Rattle·journal.proofs.Joined.{joined}
-use Rattle·journal.proofs.Ending.{bad-keys, ends-so, ends-alone, replayed-whole}
-use Rattle·journal.proofs.Replaying.{Refuses, by-replay, from-start}
-use Rattle·journal.proofs.Totals.{totals-told}
-use Rattle·journal.proofs.Agrees.{answered-agrees, agrees-so, none-told, all-agree, first-told}
-use Rattle·demands·specs.specs.Answered.{oneOf}
-use Rattle·demands·proofs.proofs.Answering.{is-true, is-false, one-or-none}
-use Rattle·demands·specs.specs.InTheJournal.{ReplayAnswered, ReplayEnds, Added, Recorded, AllRecorded, AllAnswered}
+use Rattle.demands.specs.Names as N
+use N.{false, true, List, [], ◌++◌, ◌∷◌, append-nil, inl, inr, ⊎_elim, ◌∙◌, ◌≡◌, ap, refl, sym, ◌<◌, ℕ, get_or, take-append_seam, ◌-◌}
+use N.{arith, ltb, length, take, lt-ltb, AreBytes, Sm4Cipher, AllReplayable, Ends, NoneDiffers, Totals, counted_all, differs, Entry}
+use N.{stored_journal as stored, written_journal as written, added, behind_report, bad_keys, key_of_journal as key_of, keys_in, answered_by}
+use N.{call_into, recomputed, result_of as result, done_journal as done, number_of_end, replay, nothing, write, JournalEnd as Ended, BadKeys}
+use N.{BadRecord, DoneJournal as Done, TooLongJournal as TooLong, UnknownKey, Replayed, Keys, DoneWrote, NoRoomWrote as NoRoom}
+use N.{host_mode_call, host_replay, keys_of, told_of_journal as told_of, LuossavinKeys}
+use Rattle.block.proofs.Same.{by_test}
+use Rattle.journal.proofs.Sums.{replay_adds_up, first_replayed}
+use Rattle.journal.proofs.Lent.{any_output-head, any_output-result}
+use Rattle.journal.proofs.Joined.{joined}
+use Rattle.journal.proofs.Ending.{bad-keys, ends_so, ends-alone, replayed_whole}
+use Rattle.journal.proofs.Replaying.{Refuses, by_replay, from_start}
+use Rattle.journal.proofs.Totals.{totals_told}
+use Rattle.journal.proofs.Agrees.{answered-agrees, agrees_so, none_told, all_agree, first-told}
+use Rattle.demands.specs.Answered.{one_of}
+use Rattle.demands.proofs.Answering.{is_true, is_false, one-or-none}
+use Rattle.demands.specs.InTheJournal.{ReplayAnswered, ReplayEnds, Added, Recorded, AllRecorded, AllAnswered}
 
 -- Which number exactly when: the replay ends as keys and journal say, and in no other way.
-abbrev end-back : ℕ → Ended
-end-back n = getD (Done ∷ BadRecord ∷ TooLong ∷ UnknownKey ∷ BadKeys ∷ []) (n - 22) Done
+abbrev end_back : ℕ → Ended
+end_back n = get_or (Done ∷ BadRecord ∷ TooLong ∷ UnknownKey ∷ BadKeys ∷ []) (n - 22) Done
 
-end-of : (e : Ended) → end-back (numberOfEnd e) ≡ e
-end-of e = elim e [ Done ↦ refl | BadRecord ↦ refl | TooLong ↦ refl | UnknownKey ↦ refl | BadKeys ↦ refl ]
+end_of : (e : Ended) → end_back (number_of_end e) ≡ e
+end_of Done = refl
+end_of BadRecord = refl
+end_of TooLong = refl
+end_of UnknownKey = refl
+end_of BadKeys = refl
 
 module _ (k : LuossavinKeys) (journal : List ℕ) (small : AreBytes journal) where
-  pub exported-replay-ends : ReplayEnds k journal (replay (keysOf k) journal)
-  exported-replay-ends =
-      by-test (badKeys (keysOf k)) (λ e. inl (e, bad-keys (keysOf k) journal e)) (λ e. inr (e, ends-so (keysOf k) journal e small))
+  pub exported_replay-ends : ReplayEnds k journal (replay (keys_of k) journal)
+  exported_replay-ends =
+      by_test (bad_keys (keys_of k)) (λ e. inl (e, bad-keys (keys_of k) journal e)) (λ e. inr (e, ends_so (keys_of k) journal e small))
 
-  pub exported-replay-alone : (x : Replayed) → ReplayEnds k journal x → hostReplay k journal ≡ toldOf x
-  unfolding hostReplay
-  exported-replay-alone x (inl (e, f)) = ap toldOf (bad-keys (keysOf k) journal e ∙ sym f)
-  exported-replay-alone x (inr (e, f)) = ap toldOf (sym (ends-alone (keysOf k) journal e x small f))
+  pub exported_replay-alone : (x : Replayed) → ReplayEnds k journal x → host_replay k journal ≡ told_of x
+  unfolding host_replay
+  exported_replay-alone x (inl (e, f)) = ap told_of (bad-keys (keys_of k) journal e ∙ sym f)
+  exported_replay-alone x (inr (e, f)) = ap told_of (sym (ends-alone (keys_of k) journal e x small f))
 
   -- the number tells how it ended
-  pub exported-replay-number : (e : Ended) → hostReplay k journal .number ≡ numberOfEnd e → replay (keysOf k) journal .ended ≡ e
-  unfolding hostReplay toldOf
-  exported-replay-number e n = sym (end-of (replay (keysOf k) journal .ended)) ∙ ap end-back n ∙ end-of e
+  pub exported_replay-number : (e : Ended) → (host_replay k journal).number ≡ number_of_end e → (replay (keys_of k) journal).ended ≡ e
+  unfolding host_replay told_of
+  exported_replay-number e n = sym (end_of (replay (keys_of k) journal).ended) ∙ ap end_back n ∙ end_of e
 
 -- What is told of the calls that were replayed, however it ended.
-module _ (k : LuossavinKeys) (journal : List ℕ) (small : AreBytes journal) (good : badKeys (keysOf k) ≡ false) (x : Replayed)
-    (ends : Ends (keysIn (keysOf k)) journal 0 nothing x) where
+module _ (k : LuossavinKeys) (journal : List ℕ) (small : AreBytes journal) (good : bad_keys (keys_of k) ≡ false) (x : Replayed)
+    (ends : Ends (keys_in (keys_of k)) journal 0 nothing x) where
   abbrev ks : List Sm4Cipher
-  ks = keysIn (keysOf k)
+  ks = keys_in (keys_of k)
 
   -- the totals are theirs
-  pub exported-totals : Totals ks (ends .calls) (x .report)
-  exported-totals = totals-told ks journal x ends
+  pub exported_totals : Totals ks ends.calls x.report
+  exported_totals = totals_told ks journal x ends
 
   -- the first that differs, by its count and its place
-  pub exported-first-told : (es fs : List Entry) (e : Entry) → ends .calls ≡ es ++ e ∷ fs → NoneDiffers ks es → differs ks e ≡ true
-      → (hostReplay k journal .differs ≡ 1) × (hostReplay k journal .«first_record» ≡ length es)
-      × (hostReplay k journal .«first_place» ≡ length (stored es))
-  unfolding toldOf
-  exported-first-told es fs e c n d =
-      let told = exported-replay-alone k journal small x (inr (good, ends)) in
+  pub exported_first-told : (es fs : List Entry) (e : Entry) → ends.calls ≡ es ++ e ∷ fs → NoneDiffers ks es → differs ks e ≡ true
+      → ((host_replay k journal).differs ≡ 1) × ((host_replay k journal).first_record ≡ length es)
+      × ((host_replay k journal).first_place ≡ length (stored es))
+  unfolding told_of
+  exported_first-told es fs e c n d =
+      let told = exported_replay-alone k journal small x (inr (good, ends)) in
       rw (told, first-told ks journal x ends es fs e c n d) (refl, refl, refl)
 
-  all-answered : (es : List Entry) → NoneDiffers ks es → AllAnswered k es
-  all-answered [] n = tt
-  all-answered (e ∷ es) (n, ns) = (agrees-so ks e n, all-answered es ns)
+  all_answered : (es : List Entry) → NoneDiffers ks es → AllAnswered k es
+  all_answered [] n = tt
+  all_answered (e ∷ es) (n, ns) = (agrees_so ks e n, all_answered es ns)
 
   -- where none is told, every call answers now what was recorded of it
-  pub exported-none-told : hostReplay k journal .differs ≡ 0 → AllAnswered k (ends .calls)
-  unfolding toldOf
-  exported-none-told z =
-      let told = rw (exported-replay-alone k journal small x (inr (good, ends))) at z in
-      all-answered (ends .calls) (all-agree ks journal x ends (is-false 1 0 refl (x .report .first .found) told))
+  pub exported_none-told : (host_replay k journal).differs ≡ 0 → AllAnswered k ends.calls
+  unfolding told_of
+  exported_none-told z =
+      let told = rw (exported_replay-alone k journal small x (inr (good, ends))) at z in
+      all_answered ends.calls (all_agree ks journal x ends (is_false 1 0 refl x.report.first.found told))
 
 -- Calls recorded as they were answered.
 module _ (keys : LuossavinKeys) (e : Entry) (r : Recorded keys e) where
   abbrev c : Sm4Cipher
-  c = keyOf (e .key) (keysIn (keysOf keys))
+  c = key_of e.key (keys_in (keys_of keys))
 
   -- the exported call on the record's fields is the journal's
-  host-is : hostModeCall (e .direction) (r .mode) (r .key) (e .label) (e .«data») (e .iv) (r .out) ≡ callInto c e (r .out)
-  unfolding hostModeCall callInto
-  host-is =
-      ⊎-elim (λ (m : r .mode ≡ e .mode). rw (m, r .lent))
-      (λ (h : (4 < r .mode) × (4 < e .mode)). rw (lt-ltb 4 (r .mode) (h .0), lt-ltb 4 (e .mode) (h .1))) (r .same-mode)
+  host_is : host_mode_call e.direction r.mode r.key e.label e.«data» e.iv r.out ≡ call_into c e r.out
+  unfolding host_mode_call call_into
+  host_is =
+      ⊎_elim (λ (m : r.mode ≡ e.mode). rw (m, r.lent))
+      (λ (h : (4 < r.mode) × (4 < e.mode)). rw (lt-ltb 4 r.mode h.0, lt-ltb 4 e.mode h.1)) r.same-mode
 
-  as-answered : answeredBy (recomputed c e) e ≡ e
-  as-answered =
-      let short = r .replayable .short in
-      let n : recomputed c e .head .number ≡ e .number = sym (r .number ∙ rw (host-is, any-output-head c e short (r .out) (r .room))) in
-      let t : result (recomputed c e) ≡ e .output = sym (r .output ∙ rw host-is (any-output-result c e short (r .out) (r .room))) in
+  as_answered : answered_by (recomputed c e) e ≡ e
+  as_answered =
+      let short = r.replayable.short in
+      let n : (recomputed c e).head.number ≡ e.number = sym (r.number ∙ rw (host_is, any_output-head c e short r.out r.room)) in
+      let t : result (recomputed c e) ≡ e.output = sym (r.output ∙ rw host_is (any_output-result c e short r.out r.room)) in
       rw (n, t)
 
-  recorded-agrees : differs (keysIn (keysOf keys)) e ≡ false
-  recorded-agrees = rw as-answered at (answered-agrees (keysIn (keysOf keys)) e)
+  recorded-agrees : differs (keys_in (keys_of keys)) e ≡ false
+  recorded-agrees = rw as_answered at (answered-agrees (keys_in (keys_of keys)) e)
 
-all-good : (keys : LuossavinKeys) (es : List Entry) → AllRecorded keys es
-    → AllReplayable (keysIn (keysOf keys)) es × NoneDiffers (keysIn (keysOf keys)) es
-all-good keys [] a = (tt, tt)
-all-good keys (e ∷ es) (r, a) = let (p, q) = all-good keys es a in ((r .replayable, p), (recorded-agrees keys e r, q))
+all_good : (keys : LuossavinKeys) (es : List Entry) → AllRecorded keys es
+    → AllReplayable (keys_in (keys_of keys)) es × NoneDiffers (keys_in (keys_of keys)) es
+all_good keys [] a = (tt, tt)
+all_good keys (e ∷ es) (r, a) = let (p, q) = all_good keys es a in ((r.replayable, p), (recorded-agrees keys e r, q))
 
 -- Calls that a host made under keys that are lent, recorded one behind the other as they were answered, are replayed to the end, and
 -- none differs.
-module _ (keys : LuossavinKeys) (good : badKeys (keysOf keys) ≡ false) (es : List Entry) (all : AllRecorded keys es) where
-  night-told : hostReplay keys (stored es) ≡ toldOf (done (countedAll (keysIn (keysOf keys)) es 0 nothing))
-  unfolding hostReplay
-  night-told = rw (replayed-whole (keysOf keys) good es (all-good keys es all .0))
+module _ (keys : LuossavinKeys) (good : bad_keys (keys_of keys) ≡ false) (es : List Entry) (all : AllRecorded keys es) where
+  night_told : host_replay keys (stored es) ≡ told_of (done (counted_all (keys_in (keys_of keys)) es 0 nothing))
+  unfolding host_replay
+  night_told = rw (replayed_whole (keys_of keys) good es (all_good keys es all).0)
 
-  pub exported-night-replayed : hostReplay keys (stored es) .number ≡ 0
-  unfolding toldOf
-  exported-night-replayed = rw night-told
+  pub exported_night_replayed : (host_replay keys (stored es)).number ≡ 0
+  unfolding told_of
+  exported_night_replayed = rw night_told
 
-  pub exported-night-agrees : hostReplay keys (stored es) .differs ≡ 0
-  unfolding toldOf
-  exported-night-agrees =
-      let ks = keysIn (keysOf keys) in
-      let (p, q) = all-good keys es all in
-      let ends : Ends ks (stored es) 0 nothing (done (countedAll ks es 0 nothing)) =
+  pub exported_night_agrees : (host_replay keys (stored es)).differs ≡ 0
+  unfolding told_of
+  exported_night_agrees =
+      let ks = keys_in (keys_of keys) in
+      let (p, q) = all_good keys es all in
+      let ends : Ends ks (stored es) 0 nothing (done (counted_all ks es 0 nothing)) =
       record { calls = es; rest = []; split = sym (append-nil (stored es)); replayable = p; why = refl; place = refl; report = refl } in
-      rw (night-told, none-told ks (stored es) _ ends q)
+      rw (night_told, none_told ks (stored es) _ ends q)
 
 -- so is what the writer wrote of one
-module _ (keys : LuossavinKeys) (good : badKeys (keysOf keys) ≡ false) (e : Entry) (r : Recorded keys e) (o : List ℕ) (n : ℕ)
-    (wrote : write e o .wrote ≡ Done·wrote n) where
-  is-journal : take n (write e o .bytes) ≡ stored (e ∷ [])
+module _ (keys : LuossavinKeys) (good : bad_keys (keys_of keys) ≡ false) (e : Entry) (r : Recorded keys e) (o : List ℕ) (n : ℕ)
+    (wrote : (write e o).wrote ≡ DoneWrote n) where
+  is_journal : take n (write e o).bytes ≡ stored (e ∷ [])
   unfolding write stored
-  is-journal =
-      let short = r .replayable .short in
-      by-test (ltb (length o) (length (written e)))
-      (λ f. let z : NoRoom ≡ Done·wrote n = rw (short, f) at wrote in let y : _≡_ {A = ℕ} 0 1 = cc in absurd (omega arith))
+  is_journal =
+      let short = r.replayable.short in
+      by_test (ltb (length o) (length (written e)))
+      (λ f. let z : NoRoom ≡ DoneWrote n = rw (short, f) at wrote in let y : ◌≡◌ {A = ℕ} 0 1 = cc in absurd (omega arith))
       (λ f.
-      let z : Done·wrote (length (written e)) ≡ Done·wrote n = rw (short, f) at wrote in
+      let z : DoneWrote (length (written e)) ≡ DoneWrote n = rw (short, f) at wrote in
       let m : n ≡ length (written e) = cc in
-      rw (short, f, m, take-append-seam, append-nil))
+      rw (short, f, m, take-append_seam, append-nil))
 
-  pub exported-written-agrees : (hostReplay keys (take n (write e o .bytes)) .number ≡ 0)
-      × (hostReplay keys (take n (write e o .bytes)) .differs ≡ 0)
-  exported-written-agrees =
-      rw is-journal (exported-night-replayed keys good (e ∷ []) (r, tt), exported-night-agrees keys good (e ∷ []) (r, tt))
+  pub exported_written-agrees : ((host_replay keys (take n (write e o).bytes)).number ≡ 0)
+      × ((host_replay keys (take n (write e o).bytes)).differs ≡ 0)
+  exported_written-agrees =
+      rw is_journal (exported_night_replayed keys good (e ∷ []) (r, tt), exported_night_agrees keys good (e ∷ []) (r, tt))
 
 -- Two journals joined.
-behind-added : (size : ℕ) (x y : Replayed) → Added size (toldOf x) (toldOf y) (toldOf (behindReport size (x .report) y))
-unfolding toldOf behindReport added
+behind-added : (size : ℕ) (x y : Replayed) → Added size (told_of x) (told_of y) (told_of (behind_report size x.report y))
+unfolding told_of behind_report added
 behind-added size x y =
-    by-test (x .report .first .found) (λ f. rw f (search arith))
-    (λ f. rw f (by-test (y .report .first .found) (λ g. rw g (search arith)) (λ g. rw g (search arith))))
+    by_test x.report.first.found (λ f. rw f (search arith))
+    (λ f. rw f (by_test y.report.first.found (λ g. rw g (search arith)) (λ g. rw g (search arith))))
 
-pub exported-joined : (k : LuossavinKeys) (a b : List ℕ) → hostReplay k a .number ≡ 0
-    → Added (length a) (hostReplay k a) (hostReplay k b) (hostReplay k (a ++ b))
-unfolding hostReplay toldOf
-exported-joined k a b whole = rw (joined (keysOf k) a b whole) (behind-added (length a) (replay (keysOf k) a) (replay (keysOf k) b))
+pub exported_joined : (k : LuossavinKeys) (a b : List ℕ) → (host_replay k a).number ≡ 0
+    → Added (length a) (host_replay k a) (host_replay k b) (host_replay k (a ++ b))
+unfolding host_replay told_of
+exported_joined k a b whole = rw (joined (keys_of k) a b whole) (behind-added (length a) (replay (keys_of k) a) (replay (keys_of k) b))
 
 -- Demand 1.
-known-end : (e : Ended) → oneOf (numberOfEnd e) (0 ∷ 23 ∷ 24 ∷ 25 ∷ 26 ∷ []) ≡ true
-known-end e = elim e [ Done ↦ refl | BadRecord ↦ refl | TooLong ↦ refl | UnknownKey ↦ refl | BadKeys ↦ refl ]
+known-end : (e : Ended) → one_of (number_of_end e) (0 ∷ 23 ∷ 24 ∷ 25 ∷ 26 ∷ []) ≡ true
+known-end Done = refl
+known-end BadRecord = refl
+known-end TooLong = refl
+known-end UnknownKey = refl
+known-end BadKeys = refl
 
 -- a record that is refused is so as 23, 24 or 25
-stopped : (ks : List Sm4Cipher) (b : List ℕ) (e : Ended) → Refuses ks b e → (numberOfEnd e ≡ 0 → ⊥) × (numberOfEnd e < 26)
+stopped : (ks : List Sm4Cipher) (b : List ℕ) (e : Ended) → Refuses ks b e → (number_of_end e ≡ 0 → ⊥) × (number_of_end e < 26)
+stopped ks b Done w = elim w [ ]
+stopped ks b BadKeys w = elim w [ ]
 stopped ks b BadRecord w = (λ z. omega arith, omega arith)
 stopped ks b TooLong w = (λ z. omega arith, omega arith)
 stopped ks b UnknownKey w = (λ z. omega arith, omega arith)
 
 -- a journal that is replayed to its end has no place, and no record ends with bad keys
-the-ending : (k : Keys) (journal : List ℕ) → (numberOfEnd (replay k journal .ended) ≡ 0 → replay k journal .place ≡ 0)
-    × (numberOfEnd (replay k journal .ended) ≡ 26 → replay k journal ≡ record { ended = BadKeys; place = 0; report = nothing })
-the-ending k journal =
-    by-test (badKeys k) (λ e. rw (bad-keys k journal e) (λ _. refl, λ _. refl))
+the_ending : (k : Keys) (journal : List ℕ) → (number_of_end (replay k journal).ended ≡ 0 → (replay k journal).place ≡ 0)
+    × (number_of_end (replay k journal).ended ≡ 26 → replay k journal ≡ record { ended = BadKeys; place = 0; report = nothing })
+the_ending k journal =
+    by_test (bad_keys k) (λ e. rw (bad-keys k journal e) (λ _. refl, λ _. refl))
     (λ e.
     let (place, known) =
-    by-replay (keysIn k) (λ b place r x. (numberOfEnd (x .ended) ≡ 0 → x .place ≡ 0) × (numberOfEnd (x .ended) < 26))
-    (λ b place r z. omega arith) (λ b place r some e w. let s = stopped (keysIn k) b e w in (λ z. absurd (s .0 z), s .1))
+    by_replay (keys_in k) (λ b place r x. (number_of_end x.ended ≡ 0 → x.place ≡ 0) × (number_of_end x.ended < 26))
+    (λ b place r z. omega arith) (λ b place r some e w. let s = stopped (keys_in k) b e w in (λ z. absurd (s.0 z), s.1))
     (λ b place r x p q. q) journal 0 nothing in
-    rw (from-start k journal e) (place, λ z. absurd (omega arith)))
+    rw (from_start k journal e) (place, λ z. absurd (omega arith)))
 
-pub exported-replay-answers : (k : LuossavinKeys) (journal : List ℕ) → ReplayAnswered (hostReplay k journal)
-unfolding hostReplay toldOf
-exported-replay-answers k journal =
-    let x = replay (keysOf k) journal in
-    let first = first-replayed (keysOf k) journal in
+pub exported_replay-answers : (k : LuossavinKeys) (journal : List ℕ) → ReplayAnswered (host_replay k journal)
+unfolding host_replay told_of
+exported_replay-answers k journal =
+    let x = replay (keys_of k) journal in
+    let first = first_replayed (keys_of k) journal in
     record {
-      numbered = known-end (x .ended);
-      byMode = replay-adds-up (keysOf k) journal .byMode;
-      byAnswer = replay-adds-up (keysOf k) journal .byAnswer;
-      done = the-ending (keysOf k) journal .0;
-      bad-keys = λ z. ap toldOf (the-ending (keysOf k) journal .1 z);
-      differs = one-or-none (x .report .first .found);
-      first = λ z. first .inside (is-true 1 0 refl (x .report .first .found) z);
-      none = λ z. first .nowhere (is-false 1 0 refl (x .report .first .found) z);
+      numbered = known-end x.ended;
+      by_mode = (replay_adds_up (keys_of k) journal).by_mode;
+      by_answer = (replay_adds_up (keys_of k) journal).by_answer;
+      done = (the_ending (keys_of k) journal).0;
+      bad-keys = λ z. ap told_of ((the_ending (keys_of k) journal).1 z);
+      differs = one-or-none x.report.first.found;
+      first = λ z. first.inside (is_true 1 0 refl x.report.first.found z);
+      none = λ z. first.nowhere (is_false 1 0 refl x.report.first.found z);
     }

@@ -1,143 +1,152 @@
 -- In each mode, what encrypting gave is in order for decrypting and decrypts to the message, and the other way about.
-use Rattle·demands·specs.specs.Names as N
-use N.{Kind, not, inl, inr, _⊎_, ⊎-elim, _-_, _<_, allPadding, lastByte, namesPadding, limitOf, refused, false, true, List, _∙_, _≡_, refl}
-use N.{_%_, _≤_, ℕ, arith, length, take, length-take-le, eq-eqb, le-ltb, ne-eqb, AreBytes, done, reporting, chain, streamMode, CfbDecrypt}
-use N.{CfbEncrypt, Ctr·kind, Ofb·kind, cbcSeal, cbcOpen, cbcText, unpadded, J0, hashKey, opensUnder, sealed, textOf, textPart, gcmOpen}
-use N.{modeResult, dataCheck, wrongIv, limit, roomOf, sealedLimit, CipherMode, Cbc, Cfb, Ctr, Gcm, Ofb, Decrypt, Encrypt, Passed}
-use Rattle·block.proofs.Same.{by-test}
-use Rattle·stream.proofs.RoundTrip.{length-stream, stream-back, stream-forth}
-use Rattle·cbc.proofs.RoundTrip.{length-cbcSeal}
-use Rattle·cipher_mode.proofs.Opens.{cbc-opens-back}
-use Rattle·cbc.proofs.SealsBack.{cbc-seals-back}
-use Rattle·cbc.proofs.Blocks.{length-decrypt}
-use Rattle·demands·specs.specs.Answered.{lengthOf}
-use Rattle·gcm.proofs.Parts.{length-sealed}
-use Rattle·gcm.proofs.RoundTrip.{opens-sealed, text-of-sealed, sealed-of-opened}
-use Rattle·gcm.proofs.Settled.{text-size}
-use Rattle·cipher_mode.proofs.Opens.{open-refused, open-done}
-use Rattle·cipher_mode.proofs.Passed.{sixteen, data-within, whole-blocks-passed, with-tag-passed}
-use Rattle·demands·specs.specs.CameRound.{roundOf}
+use Rattle.demands.specs.Names as N
+use N.{Kind, not, inl, inr, ◌⊎◌, ⊎_elim, ◌-◌, ◌<◌, all_padding, last_byte, names_padding, limit_of, refused, false, true, List, ◌∙◌, ◌≡◌}
+use N.{refl, ◌%◌, ◌≤◌, ℕ, arith, length, take, length-take-le, eq-eqb, le-ltb, ne_eqb, AreBytes, done, reporting, chain, stream_mode}
+use N.{CfbDecrypt, CfbEncrypt, CtrKind, OfbKind, cbc_seal, cbc_open, cbc_text, unpadded, J0, hash_key, opens_under, sealed, text_of}
+use N.{text_part, gcm_open, mode_result, data_check, wrong_iv, limit, room_of, sealed_limit, CipherMode, Cbc, Cfb, Ctr, Gcm, Ofb, Decrypt}
+use N.{Encrypt, Passed}
+use Rattle.block.proofs.Same.{by_test}
+use Rattle.stream.proofs.RoundTrip.{length-stream, stream_back, stream_forth}
+use Rattle.cbc.proofs.RoundTrip.{length-cbc_seal}
+use Rattle.cipher_mode.proofs.Opens.{cbc_opens_back}
+use Rattle.cbc.proofs.SealsBack.{cbc_seals_back}
+use Rattle.cbc.proofs.Blocks.{length-decrypt}
+use Rattle.demands.specs.Answered.{length_of}
+use Rattle.gcm.proofs.Parts.{length-sealed}
+use Rattle.gcm.proofs.RoundTrip.{opens-sealed, text-of-sealed, sealed-of_opened}
+use Rattle.gcm.proofs.Settled.{text-size}
+use Rattle.cipher_mode.proofs.Opens.{open_refused, open_done}
+use Rattle.cipher_mode.proofs.Passed.{sixteen, data-within, whole-blocks_passed, with_tag_passed}
+use Rattle.demands.specs.CameRound.{round_of}
 
 -- the message that d is encrypted to
 abbrev pub encrypted : CipherMode → List ℕ → List ℕ → List ℕ → List ℕ → List ℕ
-encrypted Cfb rk aad d iv = chain (streamMode CfbEncrypt rk) iv d
-encrypted Ofb rk aad d iv = chain (streamMode Ofb·kind rk) iv d
-encrypted Ctr rk aad d iv = chain (streamMode Ctr·kind rk) iv d
-encrypted Cbc rk aad d iv = cbcSeal rk iv d
-encrypted Gcm rk aad d iv = sealed rk (hashKey rk) (J0 rk iv) aad d
+encrypted Cfb rk aad d iv = chain (stream_mode CfbEncrypt rk) iv d
+encrypted Ofb rk aad d iv = chain (stream_mode OfbKind rk) iv d
+encrypted Ctr rk aad d iv = chain (stream_mode CtrKind rk) iv d
+encrypted Cbc rk aad d iv = cbc_seal rk iv d
+encrypted Gcm rk aad d iv = sealed rk (hash_key rk) (J0 rk iv) aad d
 
 pub encrypts : (m : CipherMode) (rk aad d iv o : List ℕ)
-    → modeResult m Encrypt rk aad d iv o ≡ reporting (roundOf m Encrypt rk iv (length d)) (done (encrypted m rk aad d iv) o)
-encrypts m rk aad d iv o = elim m [ Cfb ↦ refl | Ofb ↦ refl | Ctr ↦ refl | Cbc ↦ refl | Gcm ↦ refl ]
+    → mode_result m Encrypt rk aad d iv o ≡ reporting (round_of m Encrypt rk iv (length d)) (done (encrypted m rk aad d iv) o)
+encrypts Cfb rk aad d iv o = refl
+encrypts Ofb rk aad d iv o = refl
+encrypts Ctr rk aad d iv o = refl
+encrypts Cbc rk aad d iv o = refl
+encrypts Gcm rk aad d iv o = refl
 
-pub length-encrypted : (m : CipherMode) (rk aad d iv : List ℕ) → length (encrypted m rk aad d iv) ≡ roomOf m Encrypt (length d)
-length-encrypted Cfb rk aad d iv = length-stream CfbEncrypt rk iv d
-length-encrypted Ofb rk aad d iv = length-stream Ofb·kind rk iv d
-length-encrypted Ctr rk aad d iv = length-stream Ctr·kind rk iv d
-length-encrypted Cbc rk aad d iv = length-cbcSeal rk iv d
-length-encrypted Gcm rk aad d iv = length-sealed rk (hashKey rk) (J0 rk iv) aad d
+pub length_encrypted : (m : CipherMode) (rk aad d iv : List ℕ) → length (encrypted m rk aad d iv) ≡ room_of m Encrypt (length d)
+length_encrypted Cfb rk aad d iv = length-stream CfbEncrypt rk iv d
+length_encrypted Ofb rk aad d iv = length-stream OfbKind rk iv d
+length_encrypted Ctr rk aad d iv = length-stream CtrKind rk iv d
+length_encrypted Cbc rk aad d iv = length-cbc_seal rk iv d
+length_encrypted Gcm rk aad d iv = length-sealed rk (hash_key rk) (J0 rk iv) aad d
 
 -- a length that decryption takes
-pub tagged-passes : (n : ℕ) → n ≤ sealedLimit → 16 ≤ n → dataCheck Decrypt Gcm n ≡ Passed
-unfolding dataCheck
-tagged-passes n h k = rw (le-ltb sealedLimit n h, le-ltb n 16 k)
+pub tagged_passes : (n : ℕ) → n ≤ sealed_limit → 16 ≤ n → data_check Decrypt Gcm n ≡ Passed
+unfolding data_check
+tagged_passes n h k = rw (le-ltb sealed_limit n h, le-ltb n 16 k)
 
 -- the message c is in order for decrypting, and decrypts to d
 pub record Decrypts (m : CipherMode) (rk aad c iv d : List ℕ) : Type 0 where
-  pub content : dataCheck Decrypt m (length c) ≡ Passed
-  pub opened : (o : List ℕ) → modeResult m Decrypt rk aad c iv o ≡ reporting (roundOf m Decrypt rk iv (length c)) (done d o)
+  pub content : data_check Decrypt m (length c) ≡ Passed
+  pub opened : (o : List ℕ) → mode_result m Decrypt rk aad c iv o ≡ reporting (round_of m Decrypt rk iv (length c)) (done d o)
 
 module _ (rk aad d iv : List ℕ) (iv-bytes : AreBytes iv) (d-bytes : AreBytes d) where
   -- in every mode
-  pub back : (m : CipherMode) → wrongIv m (length iv) ≡ false → dataCheck Encrypt m (length d) ≡ Passed
+  pub back : (m : CipherMode) → wrong_iv m (length iv) ≡ false → data_check Encrypt m (length d) ≡ Passed
       → Decrypts m rk aad (encrypted m rk aad d iv) iv d
-  unfolding dataCheck
-  back Cfb n e = record { content = rw (length-stream CfbEncrypt rk iv d) e; opened = λ o. rw (stream-back CfbEncrypt rk iv d) }
-  back Ofb n e = record { content = rw (length-stream Ofb·kind rk iv d) e; opened = λ o. rw (stream-back Ofb·kind rk iv d) }
-  back Ctr n e = record { content = rw (length-stream Ctr·kind rk iv d) e; opened = λ o. rw (stream-back Ctr·kind rk iv d) }
+  unfolding data_check
+  back Cfb n e = record { content = rw (length-stream CfbEncrypt rk iv d) e; opened = λ o. rw (stream_back CfbEncrypt rk iv d) }
+  back Ofb n e = record { content = rw (length-stream OfbKind rk iv d) e; opened = λ o. rw (stream_back OfbKind rk iv d) }
+  back Ctr n e = record { content = rw (length-stream CtrKind rk iv d) e; opened = λ o. rw (stream_back CtrKind rk iv d) }
   back Cbc n e =
       let l = data-within Encrypt Cbc (length d) e in
-      let c = length (cbcSeal rk iv d) in
-      let size = length-cbcSeal rk iv d in
+      let c = length (cbc_seal rk iv d) in
+      let size = length-cbc_seal rk iv d in
       record {
-        content = rw (le-ltb sealedLimit c (omega arith), ne-eqb c 0 (λ z. omega arith), eq-eqb (c % 16) 0 (omega arith));
-        opened = cbc-opens-back rk iv d (sixteen (length iv) n) iv-bytes d-bytes;
+        content = rw (le-ltb sealed_limit c (omega arith), ne_eqb c 0 (λ z. omega arith), eq-eqb (c % 16) 0 (omega arith));
+        opened = cbc_opens_back rk iv d (sixteen (length iv) n) iv-bytes d-bytes;
       }
   back Gcm n e =
-      let h = hashKey rk in
+      let h = hash_key rk in
       let j = J0 rk iv in
       let l = data-within Encrypt Gcm (length d) e in
       let size = length-sealed rk h j aad d in
       record {
-        content = tagged-passes (length (sealed rk h j aad d)) (omega arith) (omega arith);
+        content = tagged_passes (length (sealed rk h j aad d)) (omega arith) (omega arith);
         opened = λ o.
-            rw (← open-done rk h j aad (sealed rk h j aad d) o (opens-sealed rk h j aad d), text-of-sealed rk h j aad d);
+            rw (← open_done rk h j aad (sealed rk h j aad d) o (opens-sealed rk h j aad d), text-of-sealed rk h j aad d);
       }
 
 -- a message of Gcm that was opened is one that opens
-pub opened-opens : (rk : List ℕ) (h : ℕ) (j aad c o : List ℕ) → gcmOpen rk h j aad c o .head .number ≡ 0 → opensUnder rk h j aad c ≡ true
-opened-opens rk h j aad c o z =
-    by-test (opensUnder rk h j aad c) (λ e. e) (λ e. absurd (omega (arith, rw (← open-refused rk h j aad c o e) at z)))
+pub opened_opens : (rk : List ℕ) (h : ℕ) (j aad c o : List ℕ) → (gcm_open rk h j aad c o).head.number ≡ 0 → opens_under rk h j aad c ≡ true
+opened_opens rk h j aad c o z =
+    by_test (opens_under rk h j aad c) (λ e. e) (λ e. absurd (omega (arith, rw (← open_refused rk h j aad c o e) at z)))
 
 -- the data c decrypted to a text of the table's length, which encrypts to c
 pub record Encrypts (m : CipherMode) (rk aad c iv o : List ℕ) : Type 0 where
   pub text : List ℕ
-  pub opened : modeResult m Decrypt rk aad c iv o ≡ reporting (roundOf m Decrypt rk iv (length c)) (done text o)
-  pub size : length text ≡ lengthOf m Decrypt rk iv c
+  pub opened : mode_result m Decrypt rk aad c iv o ≡ reporting (round_of m Decrypt rk iv (length c)) (done text o)
+  pub size : length text ≡ length_of m Decrypt rk iv c
   pub again : AreBytes c → encrypted m rk aad text iv ≡ c
 
 module _ (rk aad c iv o : List ℕ) where
   abbrev streamed : Kind → List ℕ
-  streamed k = chain (streamMode k rk) iv c
+  streamed k = chain (stream_mode k rk) iv c
 
   -- decrypting refuses, with the output as it was lent, or gives such a text
-  pub opening : (m : CipherMode) → wrongIv m (length iv) ≡ false → dataCheck Decrypt m (length c) ≡ Passed
-      → ((n : ℕ) × (0 < n) × (modeResult m Decrypt rk aad c iv o ≡ refused n o)) ⊎ Encrypts m rk aad c iv o
-  unfolding cbcOpen unpadded
+  pub opening : (m : CipherMode) → wrong_iv m (length iv) ≡ false → data_check Decrypt m (length c) ≡ Passed
+      → ((n : ℕ) × (0 < n) × (mode_result m Decrypt rk aad c iv o ≡ refused n o)) ⊎ Encrypts m rk aad c iv o
+  unfolding cbc_open unpadded
   opening Cfb n e =
-      inr (record { text = streamed CfbDecrypt; opened = refl; size = simp length-stream; again = λ _. stream-forth CfbEncrypt rk iv c })
+      inr (record { text = streamed CfbDecrypt; opened = refl; size = simp length-stream; again = λ _. stream_forth CfbEncrypt rk iv c })
   opening Ofb n e =
-      inr (record { text = streamed Ofb·kind; opened = refl; size = simp length-stream; again = λ _. stream-forth Ofb·kind rk iv c })
+      inr (record { text = streamed OfbKind; opened = refl; size = simp length-stream; again = λ _. stream_forth OfbKind rk iv c })
   opening Ctr n e =
-      inr (record { text = streamed Ctr·kind; opened = refl; size = simp length-stream; again = λ _. stream-forth Ctr·kind rk iv c })
+      inr (record { text = streamed CtrKind; opened = refl; size = simp length-stream; again = λ _. stream_forth CtrKind rk iv c })
   opening Cbc n e =
-      let p = cbcText rk iv c in
-      let k = length p - lastByte p in
-      let whole = whole-blocks-passed (length c) e .1 in
+      let p = cbc_text rk iv c in
+      let k = length p - last_byte p in
+      let whole = (whole-blocks_passed (length c) e).1 in
       let size = length-take-le k p (omega arith) in
-      by-test (not (namesPadding (lastByte p))) (λ f. inl (3, omega arith, rw f))
-      (λ f. by-test (not (allPadding p)) (λ g. inl (15, omega arith, rw (f, g)))
+      by_test (not (names_padding (last_byte p))) (λ f. inl (3, omega arith, rw f))
+      (λ f. by_test (not (all_padding p)) (λ g. inl (15, omega arith, rw (f, g)))
       (λ g. inr (record {
         text = take k p;
         opened = rw (f, g, size);
         size = size ∙ rw (length-decrypt rk iv c (sixteen (length iv) n) whole);
-        again = λ b. cbc-seals-back rk iv c k (sixteen (length iv) n) b whole (rw (f, g));
+        again = λ b. cbc_seals_back rk iv c k (sixteen (length iv) n) b whole (rw (f, g));
       })))
   opening Gcm n e =
-      let h = hashKey rk in
+      let h = hash_key rk in
       let j = J0 rk iv in
-      let long = with-tag-passed (length c) e in
-      by-test (opensUnder rk h j aad c)
+      let long = with_tag_passed (length c) e in
+      by_test (opens_under rk h j aad c)
       (λ t. inr (record {
-        text = textOf rk j (textPart c);
-        opened = rw (← open-done rk h j aad c o t);
+        text = text_of rk j (text_part c);
+        opened = rw (← open_done rk h j aad c o t);
         size = text-size rk j c;
-        again = λ _. sealed-of-opened rk h j aad c t;
+        again = λ _. sealed-of_opened rk h j aad c t;
       }))
-      (λ t. inl (4, omega arith, rw (← open-refused rk h j aad c o t)))
+      (λ t. inl (4, omega arith, rw (← open_refused rk h j aad c o t)))
 
   -- such a text may be encrypted, in Cbc if it is no longer than that allows
-  within : (m : CipherMode) → length c ≤ limitOf Decrypt m → (m ≡ Cbc → lengthOf m Decrypt rk iv c ≤ limit)
-      → lengthOf m Decrypt rk iv c ≤ limit
-  within m = elim m [ Cfb ↦ λ h _. h | Ofb ↦ λ h _. h | Ctr ↦ λ h _. h | Cbc ↦ λ _ l. l refl | Gcm ↦ λ h _. omega arith ]
+  within : (m : CipherMode) → length c ≤ limit_of Decrypt m → (m ≡ Cbc → length_of m Decrypt rk iv c ≤ limit)
+      → length_of m Decrypt rk iv c ≤ limit
+  within Cfb h _ = h
+  within Ofb h _ = h
+  within Ctr h _ = h
+  within Cbc _ l = l refl
+  within Gcm h _ = omega arith
 
-  pub forth : (m : CipherMode) → wrongIv m (length iv) ≡ false → dataCheck Decrypt m (length c) ≡ Passed
-      → modeResult m Decrypt rk aad c iv o .head .number ≡ 0 → (m ≡ Cbc → modeResult m Decrypt rk aad c iv o .head .size ≤ limit)
-      → (t : Encrypts m rk aad c iv o) × (dataCheck Encrypt m (length (t .text)) ≡ Passed)
-  unfolding dataCheck
+  pub forth : (m : CipherMode) → wrong_iv m (length iv) ≡ false → data_check Decrypt m (length c) ≡ Passed
+      → (mode_result m Decrypt rk aad c iv o).head.number ≡ 0 → (m ≡ Cbc → (mode_result m Decrypt rk aad c iv o).head.size ≤ limit)
+      → (t : Encrypts m rk aad c iv o) × (data_check Encrypt m (length t.text) ≡ Passed)
+  unfolding data_check
   forth m n e z l =
-      ⊎-elim (λ (k, some, x). absurd (omega (arith, rw x at z)))
+      ⊎_elim (λ (k, some, x). absurd (omega (arith, rw x at z)))
       (λ t.
-      let small = within m (data-within Decrypt m (length c) e) (λ f. rw (t .opened, t .size) at (l f)) in
-      (t, rw (t .size, le-ltb limit (lengthOf m Decrypt rk iv c) small)))
+      let small = within m (data-within Decrypt m (length c) e) (λ f. rw (t.opened, t.size) at (l f)) in
+      (t, rw (t.size, le-ltb limit (length_of m Decrypt rk iv c) small)))
       (opening m n e)

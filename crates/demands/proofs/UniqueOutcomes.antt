@@ -1,129 +1,137 @@
 -- Demand 1, that outcomes can be predicted: any two answers, outputs and states that a contract allows coincide. One theorem for each form
 -- that a public call's contract has, whatever the definition in it gives.
-use Rattle·demands·specs.specs.Names as N
-use N.{Bool, cond, not, List, [], _∷_, _∙_, _≡_, ap, refl, sym, _-_, ℕ, eqb, getD, Head, Outcome, endingHead, headOf, outcome, Answer}
-use N.{Ending, Done, Refused·ending as Refused, Stepped, ctrStepped, opensStepped, sealStepped, Ctr·state as Ctr, CtrStep, Opens, OpensStep}
-use N.{Seal, SealStep, Verdict, askedHead, isFound, verdictOf, Asked, BadList, Candidate, None, Refused·asked, Found, planHead}
-use N.{planned·outcome, ByPlan, Planned·end, Done·plan, NotAccepted, Refused·plan, Shelf·Outcome, Place, shelfNumber as numberOfEnd}
-use N.{outcomeOf, placeIn, Shelf·end, BadShelf, Done·shelf, NoCurrent, NoRoom·shelf, NotHigher, Shelf·found, Kept, Leaves, Wrote, headIn}
-use N.{reported, ctrReported, opensReported, sealReported, Handed, plannedReported, shelfReported, shelvedReported, Told, foundReported}
-use N.{LuossavinAnswer, LuossavinLabel, LuossavinCtrStep, LuossavinOpensStep, LuossavinSealStep, LuossavinShelf, LuossavinShelved}
-use N.{LuossavinFound, LuossavinPlanned}
-use Rattle·demands·proofs.proofs.Answering.{toldBy, told-back, mark-back}
-use Rattle·demands·specs.specs.OneOutcome.{One, OneValue}
+use Rattle.demands.specs.Names as N
+use N.{Bool, cond, not, List, [], ◌∷◌, ◌∙◌, ◌≡◌, ap, refl, sym, ◌-◌, ℕ, eqb, get_or, Head, Outcome, ending_head, head_of, outcome, Answer}
+use N.{Ending, Done, RefusedEnding as Refused, Stepped, ctr_stepped, opens_stepped, seal_stepped, CtrState as Ctr, CtrStep, Opens}
+use N.{OpensStep, Seal, SealStep, Verdict, asked_head, is_found, verdict_of, Asked, BadList, Candidate, None, RefusedAsked, Found, plan_head}
+use N.{planned_outcome, ByPlan, PlannedEnd, DonePlan, NotAccepted, RefusedPlan, ShelfOutcome, Place, shelf_number as number_of_end}
+use N.{outcome_of, place_in, ShelfEnd, BadShelf, DoneShelf, NoCurrent, NoRoomShelf, NotHigher, ShelfFound, Kept, Leaves, Wrote, head_in}
+use N.{reported, ctr_reported, opens_reported, seal_reported, Handed, planned_reported, shelf_reported, shelved_reported, Told}
+use N.{found_reported, LuossavinAnswer, LuossavinLabel, LuossavinCtrStep, LuossavinOpensStep, LuossavinSealStep, LuossavinShelf}
+use N.{LuossavinShelved, LuossavinFound, LuossavinPlanned}
+use Rattle.demands.proofs.Answering.{told_by, told_back, mark_back}
+use Rattle.demands.specs.OneOutcome.{One, OneValue}
 
 -- an answer that can be told back from what it spells is one alone, with its output or without
-one-value : {R X : Type 0} {of : R → X} (back : X → R) → ((r : R) → back (of r) ≡ r) → (x : X) → OneValue R X of x
-one-value {R} back told x r₁ r₂ e₁ e₂ = sym (told r₁) ∙ ap {B = R} back (e₁ ∙ sym e₂) ∙ told r₂
+one_value : {R X : Type 0} {of : R → X} (back : X → R) → ((r : R) → back (of r) ≡ r) → (x : X) → OneValue R X of x
+one_value {R} back told x r₁ r₂ e₁ e₂ = sym (told r₁) ∙ ap {B = R} back (e₁ ∙ sym e₂) ∙ told r₂
 
 one : {R X : Type 0} {of : R → List ℕ → X} (back : X → R × List ℕ) → ((r : R) (o : List ℕ) → back (of r o) ≡ (r, o)) → (x : X)
     → One R X of x
 one {R} back told x r₁ r₂ o₁ o₂ e₁ e₂ =
     let e = sym (told r₁ o₁) ∙ ap {B = R × List ℕ} back (e₁ ∙ sym e₂) ∙ told r₂ o₂ in
-    (ap (λ (p : R × List ℕ). p .0) e, ap (λ (p : R × List ℕ). p .1) e)
+    (ap (λ (p : R × List ℕ). p.0) e, ap (λ (p : R × List ℕ). p.1) e)
 
 -- an answer by its report, and a host's, field by field
-abbrev answerOf : Head → Answer
-answerOf h = record { ending = toldBy Ending Done Refused (Done 0) h; «came_round» = not (eqb (h .cameRound) 0); key = h .key }
+abbrev answer_of : Head → Answer
+answer_of h = record { ending = told_by Ending Done Refused (Done 0) h; came_round = not (eqb h.came_round 0); key = h.key }
 
-ending-told : (e : Ending) → toldBy Ending Done Refused (Done 0) (endingHead e) ≡ e
-ending-told e = elim e [ Done n ↦ refl | Refused r ↦ told-back Ending Done Refused (Done 0) r .0 ]
+ending_told : (e : Ending) → told_by Ending Done Refused (Done 0) (ending_head e) ≡ e
+ending_told (Done n) = refl
+ending_told (Refused r) = (told_back Ending Done Refused (Done 0) r).0
 
-answer-told : (a : Answer) → answerOf (headOf a) ≡ a
-answer-told a = rw (ending-told (a .ending), mark-back (a .«came_round»))
+answer-told : (a : Answer) → answer_of (head_of a) ≡ a
+answer-told a = rw (ending_told a.ending, mark_back a.came_round)
 
-abbrev hostAnswerOf : Head → LuossavinAnswer
-hostAnswerOf h = record { number = h .number; missing = h .missing; «came_round» = h .cameRound; key = h .key; length = h .size }
+abbrev host_answer_of : Head → LuossavinAnswer
+host_answer_of h = record { number = h.number; missing = h.missing; came_round = h.came_round; key = h.key; length = h.size }
 
 -- Contracts that say what the result is: a key's record set up, retired or marked, a host's too, a plan that is accepted or made, hashes, a
 -- replay, a part of a buffer, and every number or place.
-pub unique-value : (A : Type 0) (x : A) → OneValue A A (λ r. r) x
-unique-value A = one-value (λ r. r) (λ r. refl)
+pub unique_value : (A : Type 0) (x : A) → OneValue A A (λ r. r) x
+unique_value A = one_value (λ r. r) (λ r. refl)
 
 -- Blocks, messages and ranges: the library's own, and the exported ones, work by a plan among them.
-pub unique-outcome : (x : Outcome) → One Answer Outcome outcome x
-unique-outcome = one (λ y. (answerOf (y .head), y .bytes)) (λ a o. rw answer-told)
+pub unique_outcome : (x : Outcome) → One Answer Outcome outcome x
+unique_outcome = one (λ y. (answer_of y.head, y.bytes)) (λ a o. rw answer-told)
 
-pub unique-report : (x : Outcome) → One LuossavinAnswer Outcome reported x
-unique-report = one (λ y. (hostAnswerOf (y .head), y .bytes)) (λ a o. refl)
+pub unique_report : (x : Outcome) → One LuossavinAnswer Outcome reported x
+unique_report = one (λ y. (host_answer_of y.head, y.bytes)) (λ a o. refl)
 
 -- Whether a file opens under an edition, which writes nothing, and a label.
-pub unique-asked : (x : Head) → OneValue LuossavinAnswer Head headIn x
-unique-asked = one-value hostAnswerOf (λ a. refl)
+pub unique_asked : (x : Head) → OneValue LuossavinAnswer Head head_in x
+unique_asked = one_value host_answer_of (λ a. refl)
 
-pub unique-label : (x : List ℕ) → OneValue LuossavinLabel (List ℕ) (λ l. l .bytes) x
-unique-label = one-value (λ b. record { bytes = b }) (λ l. refl)
+pub unique_label : (x : List ℕ) → OneValue LuossavinLabel (List ℕ) (λ l. l.bytes) x
+unique_label = one_value (λ b. record { bytes = b }) (λ l. refl)
 
 -- Messages in pieces, be it a start, a piece or an end: the next state too.
-pub unique-ctr-step : (x : Stepped Ctr) → One CtrStep (Stepped Ctr) ctrStepped x
-unique-ctr-step = one (λ y. (record { answer = answerOf (y .head); state = y .state }, y .bytes)) (λ r o. rw answer-told)
+pub unique_ctr-step : (x : Stepped Ctr) → One CtrStep (Stepped Ctr) ctr_stepped x
+unique_ctr-step = one (λ y. (record { answer = answer_of y.head; state = y.state }, y.bytes)) (λ r o. rw answer-told)
 
-pub unique-seal-step : (x : Stepped Seal) → One SealStep (Stepped Seal) sealStepped x
-unique-seal-step = one (λ y. (record { answer = answerOf (y .head); state = y .state }, y .bytes)) (λ r o. rw answer-told)
+pub unique_seal-step : (x : Stepped Seal) → One SealStep (Stepped Seal) seal_stepped x
+unique_seal-step = one (λ y. (record { answer = answer_of y.head; state = y.state }, y.bytes)) (λ r o. rw answer-told)
 
-pub unique-opens-step : (x : Stepped Opens) → One OpensStep (Stepped Opens) opensStepped x
-unique-opens-step = one (λ y. (record { answer = answerOf (y .head); state = y .state }, y .bytes)) (λ r o. rw answer-told)
+pub unique_opens-step : (x : Stepped Opens) → One OpensStep (Stepped Opens) opens_stepped x
+unique_opens-step = one (λ y. (record { answer = answer_of y.head; state = y.state }, y.bytes)) (λ r o. rw answer-told)
 
-pub unique-exported-ctr-step : (x : Stepped Ctr) → One LuossavinCtrStep (Stepped Ctr) ctrReported x
-unique-exported-ctr-step = one (λ y. (record { answer = hostAnswerOf (y .head); state = y .state }, y .bytes)) (λ r o. refl)
+pub unique_exported_ctr-step : (x : Stepped Ctr) → One LuossavinCtrStep (Stepped Ctr) ctr_reported x
+unique_exported_ctr-step = one (λ y. (record { answer = host_answer_of y.head; state = y.state }, y.bytes)) (λ r o. refl)
 
-pub unique-exported-seal-step : (x : Stepped Seal) → One LuossavinSealStep (Stepped Seal) sealReported x
-unique-exported-seal-step = one (λ y. (record { answer = hostAnswerOf (y .head); state = y .state }, y .bytes)) (λ r o. refl)
+pub unique_exported_seal-step : (x : Stepped Seal) → One LuossavinSealStep (Stepped Seal) seal_reported x
+unique_exported_seal-step = one (λ y. (record { answer = host_answer_of y.head; state = y.state }, y.bytes)) (λ r o. refl)
 
-pub unique-exported-opens-step : (x : Stepped Opens) → One LuossavinOpensStep (Stepped Opens) opensReported x
-unique-exported-opens-step = one (λ y. (record { answer = hostAnswerOf (y .head); state = y .state }, y .bytes)) (λ r o. refl)
+pub unique_exported_opens-step : (x : Stepped Opens) → One LuossavinOpensStep (Stepped Opens) opens_reported x
+unique_exported_opens-step = one (λ y. (record { answer = host_answer_of y.head; state = y.state }, y.bytes)) (λ r o. refl)
 
 -- Which label a file opens under.
-abbrev askedOf : Head → Bool → Asked
-askedOf h found = cond found Candidate (toldBy Asked (λ _. None) Refused·asked BadList h)
+abbrev asked_of : Head → Bool → Asked
+asked_of h found = cond found Candidate (told_by Asked (λ _. None) RefusedAsked BadList h)
 
-asked-told : (e : Asked) → askedOf (askedHead e) (isFound e) ≡ e
-asked-told e =
-    elim e [ Candidate ↦ refl | None ↦ refl | BadList ↦ refl | Refused·asked r ↦ told-back Asked (λ _. None) Refused·asked BadList r .0 ]
+asked_told : (e : Asked) → asked_of (asked_head e) (is_found e) ≡ e
+asked_told Candidate = refl
+asked_told None = refl
+asked_told BadList = refl
+asked_told (RefusedAsked r) = (told_back Asked (λ _. None) RefusedAsked BadList r).0
 
-pub unique-which : (x : Verdict) → OneValue Found Verdict verdictOf x
-unique-which =
-    one-value
-    (λ v. record { ended = askedOf (v .head) (v .found); key = v .head .key; place = v .place; start = v .start; length = v .size })
-    (λ f. rw asked-told)
+pub unique_which : (x : Verdict) → OneValue Found Verdict verdict_of x
+unique_which =
+    one_value
+    (λ v. record { ended = asked_of v.head v.found; key = v.head.key; place = v.place; start = v.start; length = v.size })
+    (λ f. rw asked_told)
 
-pub unique-exported-which : (x : Told) → OneValue LuossavinFound Told foundReported x
-unique-exported-which =
-    one-value (λ t. record { answer = hostAnswerOf (t .head); found = t .found; place = t .place; start = t .start; length = t .size })
+pub unique_exported_which : (x : Told) → OneValue LuossavinFound Told found_reported x
+unique_exported_which =
+    one_value (λ t. record { answer = host_answer_of t.head; found = t.found; place = t.place; start = t.start; length = t.size })
     (λ r. refl)
 
 -- Plans.
-planned-told : (e : Planned·end) → toldBy Planned·end Done·plan Refused·plan NotAccepted (planHead e) ≡ e
-planned-told e =
-    elim e [ Done·plan n ↦ refl | NotAccepted ↦ refl | Refused·plan r ↦ told-back Planned·end Done·plan Refused·plan NotAccepted r .0 ]
+planned-told : (e : PlannedEnd) → told_by PlannedEnd DonePlan RefusedPlan NotAccepted (plan_head e) ≡ e
+planned-told (DonePlan n) = refl
+planned-told NotAccepted = refl
+planned-told (RefusedPlan r) = (told_back PlannedEnd DonePlan RefusedPlan NotAccepted r).0
 
-pub unique-by-plan : (x : Outcome) → One ByPlan Outcome planned·outcome x
-unique-by-plan =
-    one (λ y. (record { ended = toldBy Planned·end Done·plan Refused·plan NotAccepted (y .head); key = y .head .key }, y .bytes))
+pub unique_by_plan : (x : Outcome) → One ByPlan Outcome planned_outcome x
+unique_by_plan =
+    one (λ y. (record { ended = told_by PlannedEnd DonePlan RefusedPlan NotAccepted y.head; key = y.head.key }, y.bytes))
     (λ a o. rw planned-told)
 
-pub unique-exported-plan : (x : Handed) → OneValue LuossavinPlanned Handed plannedReported x
-unique-exported-plan = one-value (λ h. record { answer = hostAnswerOf (h .head); plan = h .plan }) (λ r. refl)
+pub unique_exported_plan : (x : Handed) → OneValue LuossavinPlanned Handed planned_reported x
+unique_exported_plan = one_value (λ h. record { answer = host_answer_of h.head; plan = h.plan }) (λ r. refl)
 
 -- A shelf: what putting, collecting and looking up answer.
-abbrev shelfEnd : ℕ → Shelf·end
-shelfEnd n = getD (Done·shelf ∷ BadShelf ∷ NotHigher ∷ NoRoom·shelf ∷ NoCurrent ∷ []) (n - 18) Done·shelf
+abbrev shelf_end : ℕ → ShelfEnd
+shelf_end n = get_or (DoneShelf ∷ BadShelf ∷ NotHigher ∷ NoRoomShelf ∷ NoCurrent ∷ []) (n - 18) DoneShelf
 
-shelf-told : (e : Shelf·end) → shelfEnd (numberOfEnd e) ≡ e
-shelf-told e = elim e [ Done·shelf ↦ refl | BadShelf ↦ refl | NotHigher ↦ refl | NoRoom·shelf ↦ refl | NoCurrent ↦ refl ]
+shelf_told : (e : ShelfEnd) → shelf_end (number_of_end e) ≡ e
+shelf_told DoneShelf = refl
+shelf_told BadShelf = refl
+shelf_told NotHigher = refl
+shelf_told NoRoomShelf = refl
+shelf_told NoCurrent = refl
 
-pub unique-kept : (x : Shelf·Outcome) → One Kept Shelf·Outcome outcomeOf x
-unique-kept = one (λ y. (record { ended = shelfEnd (y .number); used = y .used }, y .bytes)) (λ k o. rw shelf-told)
+pub unique_kept : (x : ShelfOutcome) → One Kept ShelfOutcome outcome_of x
+unique_kept = one (λ y. (record { ended = shelf_end y.number; used = y.used }, y.bytes)) (λ k o. rw shelf_told)
 
-pub unique-found : (x : Place) → OneValue Shelf·found Place placeIn x
-unique-found = one-value (λ p. record { ended = shelfEnd (p .number); start = p .start; length = p .size }) (λ f. rw shelf-told)
+pub unique_found : (x : Place) → OneValue ShelfFound Place place_in x
+unique_found = one_value (λ p. record { ended = shelf_end p.number; start = p.start; length = p.size }) (λ f. rw shelf_told)
 
-pub unique-exported-shelf : (x : Shelf·Outcome) → One LuossavinShelf Shelf·Outcome shelfReported x
-unique-exported-shelf = one (λ y. (record { number = y .number; used = y .used }, y .bytes)) (λ r o. refl)
+pub unique_exported_shelf : (x : ShelfOutcome) → One LuossavinShelf ShelfOutcome shelf_reported x
+unique_exported_shelf = one (λ y. (record { number = y.number; used = y.used }, y.bytes)) (λ r o. refl)
 
-pub unique-exported-shelved : (x : Place) → OneValue LuossavinShelved Place shelvedReported x
-unique-exported-shelved = one-value (λ p. record { number = p .number; start = p .start; length = p .size }) (λ r. refl)
+pub unique_exported_shelved : (x : Place) → OneValue LuossavinShelved Place shelved_reported x
+unique_exported_shelved = one_value (λ p. record { number = p.number; start = p.start; length = p.size }) (λ r. refl)
 
 -- The writer of a journal.
-pub unique-written : (x : Leaves) → One Wrote Leaves (λ r o. record { wrote = r; bytes = o }) x
-unique-written = one (λ y. (y .wrote, y .bytes)) (λ r o. refl)
+pub unique_written : (x : Leaves) → One Wrote Leaves (λ r o. record { wrote = r; bytes = o }) x
+unique_written = one (λ y. (y.wrote, y.bytes)) (λ r o. refl)

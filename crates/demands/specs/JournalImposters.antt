@@ -1,29 +1,30 @@
 -- Calls that look like the replay of a journal to a careless test, and are not.
-use Rattle·demands·specs.specs.Names as N
-use N.{cond, false, List, [], _∷_, ℕ, ltb, replicate, take, wordAt, Encrypt, Key, Entry, fromLabel, partLimit, badKeys}
-use N.{journalRefuse as refuse, replay, nothing, BadKeys, TooLong·journal as TooLong, Replayed, Keys}
+use Rattle.demands.specs.Names as N
+use Rattle.std.specs.Prelude.{◌∷◌}
+use N.{cond, false, List, [], ℕ, ltb, replicate, take, word_at, Encrypt, Key, Entry, from_label, part_limit, bad_keys}
+use N.{journal_refuse as refuse, replay, nothing, BadKeys, TooLongJournal as TooLong, Replayed, Keys}
 
 -- replays a journal up to the first record that differs, and stops there
-abbrev pub stopsAtDifference : Keys → List ℕ → Replayed
-stopsAtDifference k journal =
-    let first = replay k journal .report .first in
-    cond (first .found) (replay k (take (first .place) journal)) (replay k journal)
+abbrev pub stops_at_difference : Keys → List ℕ → Replayed
+stops_at_difference k journal =
+    let first = (replay k journal).report.first in
+    cond first.found (replay k (take first.place journal)) (replay k journal)
 
 -- replays a journal, and looks at the length of the first label before it looks whether the record is cut
-abbrev pub tooLongFirst : Keys → List ℕ → Replayed
-tooLongFirst k journal =
-    refuse (badKeys k) BadKeys 0 nothing
-    (refuse (ltb partLimit (wordAt (fromLabel journal) 0)) TooLong 0 nothing
+abbrev pub too_long_first : Keys → List ℕ → Replayed
+too_long_first k journal =
+    refuse (bad_keys k) BadKeys 0 nothing
+    (refuse (ltb part_limit (word_at (from_label journal) 0)) TooLong 0 nothing
     (replay k journal))
 
 -- what they are held to: the key of number 1; a call under it in the unknown mode 5, recorded as done; and a record that states a label of
 -- 16,385 bytes, and is cut behind that
-abbrev pub oneKey : Keys
-oneKey = record { count = 1; keys = replicate 8 (record { rk = replicate 32 0; answer = Key; number = 1; retired = false; engine = 0 }) }
+abbrev pub one_key : Keys
+one_key = record { count = 1; keys = replicate 8 (record { rk = replicate 32 0; answer = Key; number = 1; retired = false; engine = 0 }) }
 
-abbrev pub unknownDone : Entry
-unknownDone =
+abbrev pub unknown_done : Entry
+unknown_done =
     record { direction = Encrypt; mode = 5; key = 1; label = []; «data» = []; iv = []; room = 0; number = 0; output = [] }
 
-abbrev pub cutOverlong : List ℕ
-cutOverlong = 0x54 ∷ 0x52 ∷ 0 ∷ 5 ∷ 0 ∷ 1 ∷ 0 ∷ 0 ∷ 0x40 ∷ 0x01 ∷ []
+abbrev pub cut_overlong : List ℕ
+cut_overlong = 0x54 ∷ 0x52 ∷ 0 ∷ 5 ∷ 0 ∷ 1 ∷ 0 ∷ 0 ∷ 0x40 ∷ 0x01 ∷ []

@@ -1,179 +1,181 @@
 -- The names of the layers below, and of the kit, that the demands are written with, each with the module where it is defined.
-pub use mathlib.Core.Bool.{Bool, _&&_, _||_, cond, false, not, true}
-pub use mathlib.Core.List.{List, List·Mem, Pairwise·cons, Perm, [], _++_, _∷_, append-assoc, append-nil, foldr, map, mem-of-ne-of-mem}
-pub use mathlib.Core.List.{mem-singleton, pairwise-singleton}
-pub use mathlib.Core.Logic.{_≢_, _⊎_, inl, inr, ⊎-elim}
-pub use mathlib.Core.Path.{_∙_, _≡_, ap, ap₂, refl, subst, sym}
-pub use Prim.Native.Nat.{_%_, _*_, _+_, _-_, _/_, _<_, _^_, _≤_, max, min, suc, zero, ℕ}
-pub use native.Mathlib.Nat.{div-add-mod', eq-zero-or-pos, le-of-eq, le-trans, lt-of-le-of-lt, max-le, mul-le-mul-right, ℕ-set}
-pub use native.Mathlib.Omega.{arith}
-pub use lib.Dec.{eqb, leb, lit<, lit≤, ltb}
-pub use lib.ListN.{drop, drop-of-length-le, getD, length, length-append, length-drop, length-replicate, length-take, replicate, take}
-pub use lib.ListN.{take-append-drop}
-pub use lib.Seq.{drop-append-le, drop-at, drop-drop, length-take-le, take-append-seam, take-at}
-pub use borrow.Author.Tests.{eq-eqb, eqb-false, eqb-true, le-ltb, leb-false, leb-true, lt-leb, lt-ltb, ltb-false, ltb-true, ne-eqb}
-pub use Rattle·block.specs.Below.{AreBytes}
-unfoldable pub use Rattle·block.specs.BigEndian.{bytesOf, numberOf}
-unfoldable pub use Rattle·block.specs.Same.{same}
-pub use Rattle·block.specs.Wide.{value}
-pub use Rattle·block.specs.Words.{wordAt}
-pub use Rattle·block.specs.declared.U128.{U128}
-unfoldable pub use Rattle·block.specs.Words.{unwords, words}
-pub use Rattle·block.specs.Xor.{xors}
-pub use Rattle·field.specs.Field.{Element}
-unfoldable pub use Rattle·field.specs.Field.{gmul, gpow, mulFrom, one, timesX}
-pub use Rattle·counter.specs.CameRound.{blocksOf}
-unfoldable pub use Rattle·counter.specs.CameRound.{ctrCameRound, gcmCameRound}
-pub use Rattle·counter.specs.Counter.{lastFour}
-unfoldable pub use Rattle·counter.specs.Counter.{ctrNext, gcmNext}
-pub use Rattle·cipher_mode.specs.Outcome.{Head, Outcome, cutShort, done, finished, keyed, leaving, refusal, refuse as refuseAs, refused}
-pub use Rattle·cipher_mode.specs.Outcome.{reporting}
-pub use Rattle·cipher_mode.specs.Outcome.{telling, under, written}
-pub use Rattle·block.specs.Over.{over}
-unfoldable pub use Rattle·walk.specs.Walk.{chain, walk}
-unfoldable pub use Rattle·cipher.specs.Sm4.{CK, L, L', T, T', encryptBlock, encryptWords, keysFrom, rotl, roundKeys, rounds, sboxTable, tau}
-pub use Rattle·ghash.specs.Ghash.{blockCount, ghash}
-unfoldable pub use Rattle·ghash.specs.Ghash.{authBlocks, blockOf as Ghash·block, blocks, blocksFrom, hashFrom, lengthBlock}
-unfoldable pub use Rattle·ghash.specs.Joined.{joined}
-pub use Rattle·ghash.specs.OneBlock.{OneBlock}
-pub use Rattle·roots.specs.AtMost.{AtMost, FewerThanOneIn, Having}
-pub use Rattle·roots.specs.Confused.{Confuses, Pair, PairHash, Sound, hashedCount, pairHash}
-unfoldable pub use Rattle·stream.specs.Passes.{ctrWalkSays, gcmWalkSays}
-pub use Rattle·stream.specs.Stream.{streamMode}
-pub use Rattle·stream.specs.declared.Kind.{Kind}
-pub use Rattle·stream.specs.declared.Kind.the-variants.{CfbDecrypt, CfbEncrypt, Ctr as Ctr·kind, Gctr, Ofb as Ofb·kind}
-pub use Rattle·padding.specs.Padding.{lastByte, padding}
-unfoldable pub use Rattle·padding.specs.Padding.{allPadding, namesPadding, unpadded}
-pub use Rattle·cbc.specs.Cbc.{cbcText}
-unfoldable pub use Rattle·cbc.specs.Cbc.{cbcSeal}
-pub use Rattle·padding.specs.declared.Opened.{Opened}
-pub use Rattle·padding.specs.declared.Opened.the-variants.{Done as Cbc·Done, InvalidLastU8, InvalidPadding}
-pub use Rattle·gcm.specs.Gcm.{J0, hashedCounter, tagPart, textPart}
-unfoldable pub use Rattle·gcm.specs.Gcm.{firstCounter, hashKey, opensUnder, sealed, tagOf, textOf}
-pub use Rattle·cipher_mode.specs.Calls.{cbcHead, gcmHead}
-unfoldable pub use Rattle·cipher_mode.specs.Calls.{cbcOpen, gcmOpen}
-pub use Rattle·cipher_mode.specs.Answer.{endingHead, headOf, outcome, refusalHead}
-pub use Rattle·cipher_mode.specs.Calls.{blockOf, cfbKind, gcmResult, gcmRound, lengthsOf, modeResult}
-unfoldable pub use Rattle·cipher_mode.specs.Calls.{blockCall, modeCall}
-pub use Rattle·cipher_mode.specs.Checks.{andThen, checked, keyCheck, labelCheck, refuse, retiredCheck, wrongIv}
-unfoldable pub use Rattle·cipher_mode.specs.Checks.{blockCheck, dataCheck, keyAndIv, messageCheck, roomCheck}
-pub use Rattle·cipher_mode.specs.Key.{keyHead, keyNumber, wrongNumber}
-unfoldable pub use Rattle·cipher_mode.specs.Key.{newCipher, newCipherMode, retire, withEngine}
-pub use Rattle·cipher_mode.specs.Tables.{limit, limitOf, roomOf, sealedLimit}
-unfoldable pub use Rattle·cipher_mode.specs.Tables.{modeOf}
-pub use Rattle·cipher_mode.specs.declared.CipherMode.{CipherMode}
-pub use Rattle·cipher_mode.specs.declared.CipherMode.the-variants.{Cbc, Cfb, Ctr, Gcm, Ofb}
-pub use Rattle·cipher_mode.specs.declared.Direction.{Direction}
-pub use Rattle·cipher_mode.specs.declared.Direction.the-variants.{Decrypt, Encrypt}
-pub use Rattle·cipher_mode.specs.declared.KeyAnswer.{KeyAnswer}
-pub use Rattle·cipher_mode.specs.declared.KeyAnswer.the-variants.{ErrorBlockSize as NoKey, Key, WrongNumber as NoNumber}
-pub use Rattle·cipher_mode.specs.declared.Sm4Cipher.{Sm4Cipher}
-pub use Rattle·cipher_mode.specs.declared.Sm4CipherMode.{Sm4CipherMode}
-pub use Rattle·cipher_mode.specs.declared.answer.Answer.{Answer}
-pub use Rattle·cipher_mode.specs.declared.answer.Ending.{Ending}
-pub use Rattle·cipher_mode.specs.declared.answer.Ending.the-variants.{Done, Refused as Refused·ending}
-pub use Rattle·cipher_mode.specs.declared.answer.Refusal.{Refusal}
-pub use Rattle·cipher_mode.specs.declared.answer.Refusal.the-variants.{EmptyCbc, Ended, ErrorBlockSize, ErrorDataLen}
-pub use Rattle·cipher_mode.specs.declared.answer.Refusal.the-variants.{InvalidLastU8 as Refusal·LastU8, InvalidPadding as Refusal·Padding}
-pub use Rattle·cipher_mode.specs.declared.answer.Refusal.the-variants.{InvalidTag as Refusal·Tag, NoRoom, Retired, ShortGcm, TooLong}
-pub use Rattle·cipher_mode.specs.declared.answer.Refusal.the-variants.{WrongBlock, WrongIv, WrongNumber}
-pub use Rattle·cipher_mode.specs.declared.checks.Checked.{Checked}
-pub use Rattle·cipher_mode.specs.declared.checks.Checked.the-variants.{Passed, Refused}
-pub use Rattle·cipher_mode.specs.declared.checks.Lengths.{Lengths}
-pub use Rattle·pieces.specs.Calls.{Stepped, begun, ctrStepped, ended, goesOn, opensStepped, sealStepped, stepOn}
-unfoldable pub use Rattle·pieces.specs.Calls.{ctrEnd, ctrPiece, ctrStart, opensEnd, opensPiece, opensStart, sealEnd, sealPiece, sealStart}
-unfoldable pub use Rattle·pieces.specs.Checks.{gcmStarting, running, standing, tagged, writing}
-unfoldable pub use Rattle·pieces.specs.Flow.{flowText}
-unfoldable pub use Rattle·pieces.specs.Hashing.{hashEnd}
-unfoldable pub use Rattle·pieces.specs.States.{ctrAfter, ctrShut, opensAfter, opensShut, sealAfter, sealShut}
-pub use Rattle·pieces.specs.declared.ctr.Ctr.{Ctr as Ctr·state}
-pub use Rattle·pieces.specs.declared.ctr.CtrStep.{CtrStep}
-pub use Rattle·pieces.specs.declared.flow.Counting.the-variants.{Ctr as Ctr·counting, Gcm as Gcm·counting}
-pub use Rattle·pieces.specs.declared.opens.Opens.{Opens}
-pub use Rattle·pieces.specs.declared.opens.OpensStep.{OpensStep}
-pub use Rattle·pieces.specs.declared.seal.Seal.{Seal}
-pub use Rattle·pieces.specs.declared.seal.SealStep.{SealStep}
-unfoldable pub use Rattle·editions.specs.Candidates.{anyTooLong, badList, labelAt, sum}
-pub use Rattle·editions.specs.Which.{Verdict, checkedVerdict, endedHead as askedHead, isFound, noneWith, onKey, opensWith, verdictOf}
-unfoldable pub use Rattle·editions.specs.Which.{firstOpening, searchCheck, which}
-pub use Rattle·editions.specs.declared.Ended.{Ended as Asked}
-pub use Rattle·editions.specs.declared.Ended.the-variants.{BadList, Candidate, None, Refused as Refused·asked}
-pub use Rattle·editions.specs.declared.Found.{Found}
-pub use Rattle·ranges.specs.ByPlan.{endedHead as planHead, planned·outcome}
-unfoldable pub use Rattle·ranges.specs.ByPlan.{planCall}
-pub use Rattle·ranges.specs.Plan.{noPieces, planOf, without}
-unfoldable pub use Rattle·ranges.specs.Plan.{accepts, follows, pieceSize, planned}
-unfoldable pub use Rattle·ranges.specs.Range.{rangeCall, rangeCheck, reachCheck, stretch}
-pub use Rattle·ranges.specs.Shares.{Share, allWorked, applied, laidAt, shareOf, sharesOf, worked}
-pub use Rattle·ranges.specs.declared.by_plan.ByPlan.{ByPlan}
-pub use Rattle·ranges.specs.declared.by_plan.Ended.{Ended as Planned·end}
-pub use Rattle·ranges.specs.declared.by_plan.Ended.the-variants.{Done as Done·plan, NotAccepted, Refused as Refused·plan}
-pub use Rattle·ranges.specs.declared.plan.Making.{Making}
-pub use Rattle·ranges.specs.declared.plan.Making.the-variants.{BadWorkers, Made, TooLong as TooLong·made}
-pub use Rattle·ranges.specs.declared.plan.Plan.{Plan}
-pub use Rattle·ranges.specs.declared.plan.Planned.{Planned}
-unfoldable pub use Rattle·label.specs.Label.{labelOf}
-pub use Rattle·shelf.specs.Calls.{Outcome as Shelf·Outcome, Place, holding, lookedUp, newRecord, nowhere, numberOfEnd as shelfNumber}
-pub use Rattle·shelf.specs.Calls.{outcomeOf, placeIn, putIn, refuse as shelfRefuse}
-unfoldable pub use Rattle·shelf.specs.Calls.{collectCall, findCall, putCall}
-pub use Rattle·shelf.specs.Records.{AllProper, Record}
-unfoldable pub use Rattle·shelf.specs.Records.{front as front·shelf, marked as marked·shelf, readUpTo, records, sizeAt as sizeAt·shelf}
-unfoldable pub use Rattle·shelf.specs.Records.{startsRecord as startsRecord·shelf, stored as stored·shelf, written as written·shelf}
-pub use Rattle·shelf.specs.Shelf.{collected, currentOf, isCurrentOf}
-unfoldable pub use Rattle·shelf.specs.Shelf.{badShelf, fitted, hasCurrent, notHigher, supersede, those, twoCurrent, withNew}
-pub use Rattle·shelf.specs.Steps.{InOrder}
-pub use Rattle·shelf.specs.declared.Ended.{Ended as Shelf·end}
-pub use Rattle·shelf.specs.declared.Ended.the-variants.{BadShelf, Done as Done·shelf, NoCurrent, NoRoom as NoRoom·shelf, NotHigher}
-pub use Rattle·shelf.specs.declared.Found.{Found as Shelf·found}
-pub use Rattle·shelf.specs.declared.Kept.{Kept}
-pub use Rattle·journal.specs.Ends.{AllReplayable, Ends, NoneDiffers, Replayable, Totals, answerNow, differs}
-unfoldable pub use Rattle·journal.specs.Ends.{countedAll}
-pub use Rattle·journal.specs.Format.{Entry, fromLabel, outputLimit, partLimit, tooLong}
-unfoldable pub use Rattle·journal.specs.Format.{front as front·journal, marked as marked·journal, pastLimit, sizeAt as sizeAt·journal}
-unfoldable pub use Rattle·journal.specs.Format.{startsPart, startsRecord as startsRecord·journal, stored as stored·journal}
-unfoldable pub use Rattle·journal.specs.Format.{written as written·journal}
-unfoldable pub use Rattle·journal.specs.Joined.{added, behindReport, sums}
-pub use Rattle·journal.specs.KeyList.{hasNumber, keyAt, keyOf as keyOf·journal, keysIn}
-unfoldable pub use Rattle·journal.specs.KeyList.{anyRetired, badKeys, numberTwice, placeOf}
-pub use Rattle·journal.specs.Recomputed.{answeredBy, judged, recomputed, result as resultOf}
-unfoldable pub use Rattle·journal.specs.Recomputed.{callInto, differsFrom}
-pub use Rattle·journal.specs.Replay.{countedUnder, done as done·journal, numberOfEnd, refuse as journalRefuse}
-unfoldable pub use Rattle·journal.specs.Replay.{replay, replayOne, replayUpTo}
-pub use Rattle·journal.specs.Reports.{nothing}
-unfoldable pub use Rattle·journal.specs.Reports.{counted, total}
-pub use Rattle·journal.specs.Writer.{Leaves}
-unfoldable pub use Rattle·journal.specs.Writer.{write}
-pub use Rattle·journal.specs.declared.Ended.{Ended as Journal·end}
-pub use Rattle·journal.specs.declared.Ended.the-variants.{BadKeys, BadRecord, Done as Done·journal, TooLong as TooLong·journal, UnknownKey}
-pub use Rattle·journal.specs.declared.Replayed.{Replayed}
-pub use Rattle·journal.specs.declared.keys.Keys.{Keys}
-pub use Rattle·journal.specs.declared.report.Report.{Report}
-pub use Rattle·journal.specs.declared.writer.Wrote.{Wrote}
-pub use Rattle·journal.specs.declared.writer.Wrote.the-variants.{Done as Done·wrote, NoRoom as NoRoom·wrote}
-pub use Rattle·luossavin.specs.Edition.{checkedHead}
-unfoldable pub use Rattle·luossavin.specs.Edition.{hostEditionOpens, opensHead}
-pub use Rattle·luossavin.specs.Halves.{hashOf}
-unfoldable pub use Rattle·luossavin.specs.Halves.{hostHashBlocks, hostHashJoin}
-pub use Rattle·luossavin.specs.Host.{headIn, modeIn, reported}
-unfoldable pub use Rattle·luossavin.specs.Host.{hostBlockCall, hostModeCall}
-pub use Rattle·luossavin.specs.InPieces.{ctrReported, directionOf, opensReported, sealReported}
-unfoldable pub use Rattle·luossavin.specs.InPieces.{hostCtrStart, hostOpensStart, hostSealStart}
-unfoldable pub use Rattle·luossavin.specs.Journals.{hostReplay, keysOf, toldOf as toldOf·journal}
-unfoldable pub use Rattle·luossavin.specs.Key.{cipherIn, hostKeyEngine, hostKeyNew, hostKeyRetire, keyAnswerOf, keyOf}
-pub use Rattle·luossavin.specs.Ranges.{Handed, makingHead, plannedReported}
-unfoldable pub use Rattle·luossavin.specs.Ranges.{hostCtrByPlan, hostCtrRange, hostPlanMake}
-pub use Rattle·luossavin.specs.Shelves.{shelfReported, shelvedReported}
-pub use Rattle·luossavin.specs.Which.{Told, foundReported, toldOf}
-unfoldable pub use Rattle·luossavin.specs.Which.{hostWhich}
-pub use Rattle·luossavin.specs.declared.LuossavinAnswer.{LuossavinAnswer}
-pub use Rattle·luossavin.specs.declared.edition.LuossavinLabel.{LuossavinLabel}
-pub use Rattle·luossavin.specs.declared.in_pieces.LuossavinCtrStep.{LuossavinCtrStep}
-pub use Rattle·luossavin.specs.declared.in_pieces.LuossavinOpensStep.{LuossavinOpensStep}
-pub use Rattle·luossavin.specs.declared.in_pieces.LuossavinSealStep.{LuossavinSealStep}
-pub use Rattle·luossavin.specs.declared.journals.LuossavinKeys.{LuossavinKeys}
-pub use Rattle·luossavin.specs.declared.journals.LuossavinReplayed.{LuossavinReplayed}
-pub use Rattle·luossavin.specs.declared.key.LuossavinKey.{LuossavinKey}
-pub use Rattle·luossavin.specs.declared.shelves.LuossavinShelf.{LuossavinShelf}
-pub use Rattle·luossavin.specs.declared.shelves.LuossavinShelved.{LuossavinShelved}
-pub use Rattle·luossavin.specs.declared.which.LuossavinFound.{LuossavinFound}
-pub use Rattle·luossavin.specs.declared.workers.LuossavinPlanned.{LuossavinPlanned}
+pub use Rattle.std.specs.Prelude.{Bool, ◌&&◌, ◌||◌, cond, false, not, true, ◌≢◌, ◌⊎◌, ◌≡◌, refl, ◌%◌, ◌*◌, ◌+◌, ◌-◌, ◌/◌, ◌<◌, ◌^◌, ◌≤◌}
+pub use Rattle.std.specs.Prelude.{max, min, suc, zero, ℕ, eqb, leb, ltb, drop, get_or, length, replicate, take}
+pub use mathlib.Core.List.Pairwise.{cons as PairwiseCons}
+pub use mathlib.Core.List.{List, Mem, Perm, [], ◌++◌, ◌∷◌, append_assoc, append-nil, foldr, map, mem_of_ne_of_mem}
+pub use mathlib.Core.List.{mem-singleton, Pairwise-singleton}
+pub use Rattle.std.proofs.Common.{inl, inr, ⊎_elim, ◌∙◌, ap, ap₂, subst, sym, div-add-mod', eq-zero-or-pos, le_of_eq, le_trans}
+pub use Rattle.std.proofs.Common.{lt_of_le_of_lt, mul-le-mul_right, arith, lit<, lit≤, drop_of_length-le, length-append, length-drop}
+pub use Rattle.std.proofs.Common.{length-take, take-append-drop, drop_at, drop-drop, length-take-le, take_at, eq-eqb, eqb-true, le-ltb}
+pub use Rattle.std.proofs.Common.{leb-false, leb-true, lt-ltb, ltb-false, ltb-true, ne_eqb}
+pub use Rattle.std.proofs.Math.Nat.{max-le, ℕ_set}
+pub use Rattle.std.proofs.lemmas.List.{length-replicate, drop-append-le}
+pub use Rattle.std.proofs.Math.Seq.{take-append_seam}
+pub use Rattle.std.proofs.lemmas.Bool.{eqb-false, lt-leb}
+pub use Rattle.block.specs.Below.{AreBytes}
+unfoldable pub use Rattle.block.specs.BigEndian.{bytes_of, number_of}
+unfoldable pub use Rattle.block.specs.Same.{same}
+pub use Rattle.block.specs.Wide.{value}
+pub use Rattle.block.specs.Words.{word_at}
+pub use Rattle.block.specs.declared.U128.{U128}
+unfoldable pub use Rattle.block.specs.Words.{unwords, words}
+pub use Rattle.block.specs.Xor.{xors}
+pub use Rattle.field.specs.Field.{Element}
+unfoldable pub use Rattle.field.specs.Field.{gmul, gpow, mul_from, one, times_x}
+pub use Rattle.counter.specs.CameRound.{blocks_of}
+unfoldable pub use Rattle.counter.specs.CameRound.{ctr_came_round, gcm_came_round}
+pub use Rattle.counter.specs.Counter.{last_four}
+unfoldable pub use Rattle.counter.specs.Counter.{ctr_next, gcm_next}
+pub use Rattle.cipher_mode.specs.Outcome.{Head, Outcome, cut_short, done, finished, keyed, leaving, refusal, refuse as refuse_as, refused}
+pub use Rattle.cipher_mode.specs.Outcome.{reporting}
+pub use Rattle.cipher_mode.specs.Outcome.{telling, under, written}
+pub use Rattle.block.specs.Over.{over}
+unfoldable pub use Rattle.walk.specs.Walk.{chain, walk}
+unfoldable pub use Rattle.cipher.specs.Sm4.{CK, L, L', T, T', encrypt_block, encrypt_words, keys_from, rotl, round_keys, rounds, sbox_table}
+unfoldable pub use Rattle.cipher.specs.Sm4.{tau}
+pub use Rattle.ghash.specs.Ghash.{block_count, ghash}
+unfoldable pub use Rattle.ghash.specs.Ghash.{auth_blocks, block_of as GhashBlock, blocks, blocks_from, hash_from, length_block}
+unfoldable pub use Rattle.ghash.specs.Joined.{joined}
+pub use Rattle.ghash.specs.OneBlock.{OneBlock}
+pub use Rattle.roots.specs.AtMost.{AtMost, FewerThanOneIn, Having}
+pub use Rattle.roots.specs.Confused.{Confuses, Pair, PairHash, Sound, hashed_count, pair_hash}
+unfoldable pub use Rattle.stream.specs.Passes.{ctr_walk_says, gcm_walk_says}
+pub use Rattle.stream.specs.Stream.{stream_mode}
+pub use Rattle.stream.specs.declared.Kind.{Kind}
+pub use Rattle.stream.specs.declared.Kind.TheVariants.{CfbDecrypt, CfbEncrypt, Ctr as CtrKind, Gctr, Ofb as OfbKind}
+pub use Rattle.padding.specs.Padding.{last_byte, padding}
+unfoldable pub use Rattle.padding.specs.Padding.{all_padding, names_padding, unpadded}
+pub use Rattle.cbc.specs.Cbc.{cbc_text}
+unfoldable pub use Rattle.cbc.specs.Cbc.{cbc_seal}
+pub use Rattle.padding.specs.declared.Opened.{Opened}
+pub use Rattle.padding.specs.declared.Opened.TheVariants.{Done as CbcDone, InvalidLastU8, InvalidPadding}
+pub use Rattle.gcm.specs.Gcm.{J0, hashed_counter, tag_part, text_part}
+unfoldable pub use Rattle.gcm.specs.Gcm.{first_counter, hash_key, opens_under, sealed, tag_of, text_of}
+pub use Rattle.cipher_mode.specs.Calls.{cbc_head, gcm_head}
+unfoldable pub use Rattle.cipher_mode.specs.Calls.{cbc_open, gcm_open}
+pub use Rattle.cipher_mode.specs.Answer.{ending_head, head_of, outcome, refusal_head}
+pub use Rattle.cipher_mode.specs.Calls.{block_of, cfb_kind, gcm_result, gcm_round, lengths_of, mode_result}
+unfoldable pub use Rattle.cipher_mode.specs.Calls.{block_call, mode_call}
+pub use Rattle.cipher_mode.specs.Checks.{and_then, checked, key_check, label_check, refuse, retired_check, wrong_iv}
+unfoldable pub use Rattle.cipher_mode.specs.Checks.{block_check, data_check, key_and_iv, message_check, room_check}
+pub use Rattle.cipher_mode.specs.Key.{key_head, key_number, wrong_number}
+unfoldable pub use Rattle.cipher_mode.specs.Key.{new_cipher, new_cipher_mode, retire, with_engine}
+pub use Rattle.cipher_mode.specs.Tables.{limit, limit_of, room_of, sealed_limit}
+unfoldable pub use Rattle.cipher_mode.specs.Tables.{mode_of}
+pub use Rattle.cipher_mode.specs.declared.CipherMode.{CipherMode}
+pub use Rattle.cipher_mode.specs.declared.CipherMode.TheVariants.{Cbc, Cfb, Ctr, Gcm, Ofb}
+pub use Rattle.cipher_mode.specs.declared.Direction.{Direction}
+pub use Rattle.cipher_mode.specs.declared.Direction.TheVariants.{Decrypt, Encrypt}
+pub use Rattle.cipher_mode.specs.declared.KeyAnswer.{KeyAnswer}
+pub use Rattle.cipher_mode.specs.declared.KeyAnswer.TheVariants.{ErrorBlockSize as NoKey, Key, WrongNumber as NoNumber}
+pub use Rattle.cipher_mode.specs.declared.Sm4Cipher.{Sm4Cipher}
+pub use Rattle.cipher_mode.specs.declared.Sm4CipherMode.{Sm4CipherMode}
+pub use Rattle.cipher_mode.specs.declared.answer.Answer.{Answer}
+pub use Rattle.cipher_mode.specs.declared.answer.Ending.{Ending}
+pub use Rattle.cipher_mode.specs.declared.answer.Ending.TheVariants.{Done, Refused as RefusedEnding}
+pub use Rattle.cipher_mode.specs.declared.answer.Refusal.{Refusal}
+pub use Rattle.cipher_mode.specs.declared.answer.Refusal.TheVariants.{EmptyCbc, Ended, ErrorBlockSize, ErrorDataLen}
+pub use Rattle.cipher_mode.specs.declared.answer.Refusal.TheVariants.{InvalidLastU8 as RefusalLastU8, InvalidPadding as RefusalPadding}
+pub use Rattle.cipher_mode.specs.declared.answer.Refusal.TheVariants.{InvalidTag as RefusalTag, NoRoom, Retired, ShortGcm, TooLong}
+pub use Rattle.cipher_mode.specs.declared.answer.Refusal.TheVariants.{WrongBlock, WrongIv, WrongNumber}
+pub use Rattle.cipher_mode.specs.declared.checks.Checked.{Checked}
+pub use Rattle.cipher_mode.specs.declared.checks.Checked.TheVariants.{Passed, Refused}
+pub use Rattle.cipher_mode.specs.declared.checks.Lengths.{Lengths}
+pub use Rattle.pieces.specs.Calls.{Stepped, begun, ctr_stepped, ended, goes_on, opens_stepped, seal_stepped, step_on}
+unfoldable pub use Rattle.pieces.specs.Calls.{ctr_end, ctr_piece, ctr_start, opens_end, opens_piece, opens_start, seal_end, seal_piece}
+unfoldable pub use Rattle.pieces.specs.Calls.{seal_start}
+unfoldable pub use Rattle.pieces.specs.Checks.{gcm_starting, running, standing, tagged, writing}
+unfoldable pub use Rattle.pieces.specs.Flow.{flow_text}
+unfoldable pub use Rattle.pieces.specs.Hashing.{hash_end}
+unfoldable pub use Rattle.pieces.specs.States.{ctr_after, ctr_shut, opens_after, opens_shut, seal_after, seal_shut}
+pub use Rattle.pieces.specs.declared.ctr.Ctr.{Ctr as CtrState}
+pub use Rattle.pieces.specs.declared.ctr.CtrStep.{CtrStep}
+pub use Rattle.pieces.specs.declared.flow.Counting.TheVariants.{Ctr as CtrCounting, Gcm as GcmCounting}
+pub use Rattle.pieces.specs.declared.opens.Opens.{Opens}
+pub use Rattle.pieces.specs.declared.opens.OpensStep.{OpensStep}
+pub use Rattle.pieces.specs.declared.seal.Seal.{Seal}
+pub use Rattle.pieces.specs.declared.seal.SealStep.{SealStep}
+unfoldable pub use Rattle.editions.specs.Candidates.{any_too_long, bad_list, label_at, sum}
+pub use Rattle.editions.specs.Which.{Verdict, checked_verdict, ended_head as asked_head, is_found, none_with, on_key, opens_with, verdict_of}
+unfoldable pub use Rattle.editions.specs.Which.{first_opening, search_check, which}
+pub use Rattle.editions.specs.declared.Ended.{Ended as Asked}
+pub use Rattle.editions.specs.declared.Ended.TheVariants.{BadList, Candidate, None, Refused as RefusedAsked}
+pub use Rattle.editions.specs.declared.Found.{Found}
+pub use Rattle.ranges.specs.ByPlan.{ended_head as plan_head, planned_outcome}
+unfoldable pub use Rattle.ranges.specs.ByPlan.{plan_call}
+pub use Rattle.ranges.specs.Plan.{no_pieces, plan_of, without}
+unfoldable pub use Rattle.ranges.specs.Plan.{accepts, follows, piece_size, planned}
+unfoldable pub use Rattle.ranges.specs.Range.{range_call, range_check, reach_check, stretch}
+pub use Rattle.ranges.specs.Shares.{Share, all_worked, applied, laid_at, share_of, shares_of, worked}
+pub use Rattle.ranges.specs.declared.by_plan.ByPlan.{ByPlan}
+pub use Rattle.ranges.specs.declared.by_plan.Ended.{Ended as PlannedEnd}
+pub use Rattle.ranges.specs.declared.by_plan.Ended.TheVariants.{Done as DonePlan, NotAccepted, Refused as RefusedPlan}
+pub use Rattle.ranges.specs.declared.plan.Making.{Making}
+pub use Rattle.ranges.specs.declared.plan.Making.TheVariants.{BadWorkers, Made, TooLong as TooLongMade}
+pub use Rattle.ranges.specs.declared.plan.Plan.{Plan}
+pub use Rattle.ranges.specs.declared.plan.Planned.{Planned}
+unfoldable pub use Rattle.label.specs.Label.{label_of}
+pub use Rattle.shelf.specs.Calls.{Outcome as ShelfOutcome, Place, holding, looked_up, new_record, nowhere, number_of_end as shelf_number}
+pub use Rattle.shelf.specs.Calls.{outcome_of, place_in, put_in, refuse as shelf_refuse}
+unfoldable pub use Rattle.shelf.specs.Calls.{collect_call, find_call, put_call}
+pub use Rattle.shelf.specs.Records.{AllProper, Record}
+unfoldable pub use Rattle.shelf.specs.Records.{front as front_shelf, marked as marked_shelf, read_up_to, records, size_at as size_at_shelf}
+unfoldable pub use Rattle.shelf.specs.Records.{starts_record as starts_record_shelf, stored as stored_shelf, written as written_shelf}
+pub use Rattle.shelf.specs.Shelf.{collected, current_of, is_current_of}
+unfoldable pub use Rattle.shelf.specs.Shelf.{bad_shelf, fitted, has_current, not_higher, supersede, those, two_current, with_new}
+pub use Rattle.shelf.specs.Steps.{InOrder}
+pub use Rattle.shelf.specs.declared.Ended.{Ended as ShelfEnd}
+pub use Rattle.shelf.specs.declared.Ended.TheVariants.{BadShelf, Done as DoneShelf, NoCurrent, NoRoom as NoRoomShelf, NotHigher}
+pub use Rattle.shelf.specs.declared.Found.{Found as ShelfFound}
+pub use Rattle.shelf.specs.declared.Kept.{Kept}
+pub use Rattle.journal.specs.Ends.{AllReplayable, Ends, NoneDiffers, Replayable, Totals, answer_now, differs}
+unfoldable pub use Rattle.journal.specs.Ends.{counted_all}
+pub use Rattle.journal.specs.Format.{Entry, from_label, output_limit, part_limit, too_long}
+unfoldable pub use Rattle.journal.specs.Format.{front as front_journal, marked as marked_journal, past_limit, size_at as size_at_journal}
+unfoldable pub use Rattle.journal.specs.Format.{starts_part, starts_record as starts_record_journal, stored as stored_journal}
+unfoldable pub use Rattle.journal.specs.Format.{written as written_journal}
+unfoldable pub use Rattle.journal.specs.Joined.{added, behind_report, sums}
+pub use Rattle.journal.specs.KeyList.{has_number, key_at, key_of as key_of_journal, keys_in}
+unfoldable pub use Rattle.journal.specs.KeyList.{any_retired, bad_keys, number_twice, place_of}
+pub use Rattle.journal.specs.Recomputed.{answered_by, judged, recomputed, result as result_of}
+unfoldable pub use Rattle.journal.specs.Recomputed.{call_into, differs_from}
+pub use Rattle.journal.specs.Replay.{counted_under, done as done_journal, number_of_end, refuse as journal_refuse}
+unfoldable pub use Rattle.journal.specs.Replay.{replay, replay_one, replay_up_to}
+pub use Rattle.journal.specs.Reports.{nothing}
+unfoldable pub use Rattle.journal.specs.Reports.{counted, total}
+pub use Rattle.journal.specs.Writer.{Leaves}
+unfoldable pub use Rattle.journal.specs.Writer.{write}
+pub use Rattle.journal.specs.declared.Ended.{Ended as JournalEnd}
+pub use Rattle.journal.specs.declared.Ended.TheVariants.{BadKeys, BadRecord, Done as DoneJournal, TooLong as TooLongJournal, UnknownKey}
+pub use Rattle.journal.specs.declared.Replayed.{Replayed}
+pub use Rattle.journal.specs.declared.keys.Keys.{Keys}
+pub use Rattle.journal.specs.declared.report.Report.{Report}
+pub use Rattle.journal.specs.declared.writer.Wrote.{Wrote}
+pub use Rattle.journal.specs.declared.writer.Wrote.TheVariants.{Done as DoneWrote, NoRoom as NoRoomWrote}
+pub use Rattle.luossavin.specs.Edition.{checked_head}
+unfoldable pub use Rattle.luossavin.specs.Edition.{host_edition_opens, opens_head}
+pub use Rattle.luossavin.specs.Halves.{hash_of}
+unfoldable pub use Rattle.luossavin.specs.Halves.{host_hash_blocks, host_hash_join}
+pub use Rattle.luossavin.specs.Host.{head_in, mode_in, reported}
+unfoldable pub use Rattle.luossavin.specs.Host.{host_block_call, host_mode_call}
+pub use Rattle.luossavin.specs.InPieces.{ctr_reported, direction_of, opens_reported, seal_reported}
+unfoldable pub use Rattle.luossavin.specs.InPieces.{host_ctr_start, host_opens_start, host_seal_start}
+unfoldable pub use Rattle.luossavin.specs.Journals.{host_replay, keys_of, told_of as told_of_journal}
+unfoldable pub use Rattle.luossavin.specs.Key.{cipher_in, host_key_engine, host_key_new, host_key_retire, key_answer_of, key_of}
+pub use Rattle.luossavin.specs.Ranges.{Handed, making_head, planned_reported}
+unfoldable pub use Rattle.luossavin.specs.Ranges.{host_ctr_by_plan, host_ctr_range, host_plan_make}
+pub use Rattle.luossavin.specs.Shelves.{shelf_reported, shelved_reported}
+pub use Rattle.luossavin.specs.Which.{Told, found_reported, told_of}
+unfoldable pub use Rattle.luossavin.specs.Which.{host_which}
+pub use Rattle.luossavin.specs.declared.LuossavinAnswer.{LuossavinAnswer}
+pub use Rattle.luossavin.specs.declared.edition.LuossavinLabel.{LuossavinLabel}
+pub use Rattle.luossavin.specs.declared.in_pieces.LuossavinCtrStep.{LuossavinCtrStep}
+pub use Rattle.luossavin.specs.declared.in_pieces.LuossavinOpensStep.{LuossavinOpensStep}
+pub use Rattle.luossavin.specs.declared.in_pieces.LuossavinSealStep.{LuossavinSealStep}
+pub use Rattle.luossavin.specs.declared.journals.LuossavinKeys.{LuossavinKeys}
+pub use Rattle.luossavin.specs.declared.journals.LuossavinReplayed.{LuossavinReplayed}
+pub use Rattle.luossavin.specs.declared.key.LuossavinKey.{LuossavinKey}
+pub use Rattle.luossavin.specs.declared.shelves.LuossavinShelf.{LuossavinShelf}
+pub use Rattle.luossavin.specs.declared.shelves.LuossavinShelved.{LuossavinShelved}
+pub use Rattle.luossavin.specs.declared.which.LuossavinFound.{LuossavinFound}
+pub use Rattle.luossavin.specs.declared.workers.LuossavinPlanned.{LuossavinPlanned}

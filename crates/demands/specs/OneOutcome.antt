@@ -1,6 +1,7 @@
 -- What a caller can predict: a contract that says what a call leaves allows one answer and one output alone.
-use Rattle·demands·specs.specs.Names as N
-use N.{List, _≡_, ℕ}
+use Rattle.demands.specs.Names as N
+use Rattle.std.specs.Prelude.{◌≡◌}
+use N.{List, ℕ}
 
 -- Any two answers and outputs that a contract allows are the same; it says that an answer with its output is together x, by `of`.
 abbrev pub One : (R X : Type 0) → (R → List ℕ → X) → X → Type 0

@@ -1,38 +1,38 @@
 -- What is known where nothing was refused.
-use Rattle·block.proofs.Base.{_≤_, ℕ, _≡_, Bool, false, List, eqb-true, ltb-false, not-false, ltb, length}
-use Rattle·cipher_mode.specs.declared.KeyAnswer.{KeyAnswer}
-use Rattle·cipher_mode.specs.declared.KeyAnswer.the-variants.{Key}
-use Rattle·cipher_mode.specs.declared.CipherMode.the-variants.{Gcm}
-use Rattle·cipher_mode.specs.declared.Direction.the-variants.{Decrypt}
-use Rattle·cipher_mode.specs.declared.checks.Checked.the-variants.{Passed}
-use Rattle·cipher_mode.specs.Checks.{wrongIv, keyAndIv, dataCheck}
-use Rattle·cipher_mode.proofs.Passed.{let-through, both, key-and-iv-passed}
-use Rattle·editions·specs.specs.Candidates.{sum, badList, anyTooLong}
-use Rattle·editions·specs.specs.Which.{searchCheck}
-use Rattle·editions·proofs.proofs.Turns.{or-false}
+use Rattle.block.proofs.Base.{◌≤◌, ℕ, ◌≡◌, Bool, false, List, eqb-true, ltb-false, not-false, ltb, length}
+use Rattle.cipher_mode.specs.declared.KeyAnswer.{KeyAnswer}
+use Rattle.cipher_mode.specs.declared.KeyAnswer.TheVariants.{Key}
+use Rattle.cipher_mode.specs.declared.CipherMode.TheVariants.{Gcm}
+use Rattle.cipher_mode.specs.declared.Direction.TheVariants.{Decrypt}
+use Rattle.cipher_mode.specs.declared.checks.Checked.TheVariants.{Passed}
+use Rattle.cipher_mode.specs.Checks.{wrong_iv, key_and_iv, data_check}
+use Rattle.cipher_mode.proofs.Passed.{let_through, both, key-and-iv_passed}
+use Rattle.editions.specs.Candidates.{sum, bad_list, any_too_long}
+use Rattle.editions.specs.Which.{search_check}
+use Rattle.editions.proofs.Turns.{or-false}
 
 -- a list that is not bad
-module _ (labels lengths : List ℕ) (good : badList labels lengths ≡ false) where
-  pub at-most-64 : length lengths ≤ 64
-  unfolding badList
-  at-most-64 = ltb-false 64 (length lengths) (or-false _ _ good .0)
+module _ (labels lengths : List ℕ) (good : bad_list labels lengths ≡ false) where
+  pub at_most_64 : length lengths ≤ 64
+  unfolding bad_list
+  at_most_64 = ltb-false 64 (length lengths) (or-false _ _ good).0
 
-  pub adds-up : sum lengths ≡ length labels
-  unfolding badList
-  adds-up = eqb-true (sum lengths) (length labels) (not-false _ (or-false (ltb 64 (length lengths)) _ good .1))
+  pub adds_up : sum lengths ≡ length labels
+  unfolding bad_list
+  adds_up = eqb-true (sum lengths) (length labels) (not-false _ (or-false (ltb 64 (length lengths)) _ good).1)
 
 -- a search that goes on to look at tags
 pub record InOrder (a : KeyAnswer) (iv file : ℕ) (lengths : List ℕ) : Type 0 where
   pub key : a ≡ Key
-  pub iv-size : wrongIv Gcm iv ≡ false
-  pub short : anyTooLong lengths ≡ false
-  pub content : dataCheck Decrypt Gcm file ≡ Passed
+  pub iv-size : wrong_iv Gcm iv ≡ false
+  pub short : any_too_long lengths ≡ false
+  pub content : data_check Decrypt Gcm file ≡ Passed
 
-pub search-passed : (a : KeyAnswer) (retired : Bool) (iv file : ℕ) (lengths : List ℕ)
-    → searchCheck a retired iv file lengths ≡ Passed → InOrder a iv file lengths
-unfolding searchCheck
-search-passed a retired iv file lengths e =
-    let from-key = both (keyAndIv a retired Decrypt Gcm iv) _ e in
-    let from-labels = let-through (anyTooLong lengths) _ _ (from-key .1) in
-    let first = key-and-iv-passed a retired Decrypt Gcm iv (from-key .0) in
-    record { key = first .key; iv-size = first .iv-size; short = from-labels .fails; content = from-labels .rest }
+pub search_passed : (a : KeyAnswer) (retired : Bool) (iv file : ℕ) (lengths : List ℕ)
+    → search_check a retired iv file lengths ≡ Passed → InOrder a iv file lengths
+unfolding search_check
+search_passed a retired iv file lengths e =
+    let from_key = both (key_and_iv a retired Decrypt Gcm iv) _ e in
+    let from-labels = let_through (any_too_long lengths) _ _ from_key.1 in
+    let first = key-and-iv_passed a retired Decrypt Gcm iv from_key.0 in
+    record { key = first.key; iv-size = first.iv-size; short = from-labels.fails; content = from-labels.rest }

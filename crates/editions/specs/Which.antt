@@ -1,26 +1,22 @@
 -- Which candidate a sealed file opens under: the verdict, from the inputs alone.
-use Prim.Native.Nat.{ℕ, _+_}
-use mathlib.Core.Bool.{Bool, true, false, cond}
-use mathlib.Core.List.{List, [], _∷_}
-use lib.Dec.{ltb}
-use lib.ListN.{length, take, drop}
-use Rattle·cipher_mode.specs.Outcome.{Head, finished, refusal, under}
-use Rattle·block.specs.Same.{same}
-use Rattle·gcm.specs.Gcm.{hashKey, J0, maskedTag, textPart, tagPart, opensUnder}
-use Rattle·cipher_mode.specs.declared.KeyAnswer.{KeyAnswer}
-use Rattle·cipher_mode.specs.declared.CipherMode.the-variants.{Gcm}
-use Rattle·cipher_mode.specs.declared.Direction.the-variants.{Decrypt}
-use Rattle·cipher_mode.specs.declared.Sm4Cipher.{Sm4Cipher}
-use Rattle·cipher_mode.specs.declared.answer.Refusal.the-variants.{TooLong}
-use Rattle·cipher_mode.specs.declared.checks.Checked.{Checked}
-use Rattle·cipher_mode.specs.declared.checks.Checked.the-variants.{Passed, Refused}
-use Rattle·cipher_mode.specs.Answer.{refusalHead}
-use Rattle·cipher_mode.specs.Checks.{refuse, andThen, keyAndIv, dataCheck}
-use Rattle·cipher_mode.specs.Key.{keyNumber}
-use Rattle·editions·specs.specs.Candidates.{badList, anyTooLong}
-use Rattle·editions·specs.specs.declared.Ended.{Ended}
-use Rattle·editions·specs.specs.declared.Ended.the-variants.{Candidate, None, BadList, Refused as Refused·here}
-use Rattle·editions·specs.specs.declared.Found.{Found}
+use Rattle.std.specs.Prelude.{ℕ, ◌+◌, Bool, true, false, cond, List, [], ◌∷◌, ltb, length, take, drop}
+use Rattle.cipher_mode.specs.Outcome.{Head, finished, refusal, under}
+use Rattle.block.specs.Same.{same}
+use Rattle.gcm.specs.Gcm.{hash_key, J0, masked_tag, text_part, tag_part, opens_under}
+use Rattle.cipher_mode.specs.declared.KeyAnswer.{KeyAnswer}
+use Rattle.cipher_mode.specs.declared.CipherMode.TheVariants.{Gcm}
+use Rattle.cipher_mode.specs.declared.Direction.TheVariants.{Decrypt}
+use Rattle.cipher_mode.specs.declared.Sm4Cipher.{Sm4Cipher}
+use Rattle.cipher_mode.specs.declared.answer.Refusal.TheVariants.{TooLong}
+use Rattle.cipher_mode.specs.declared.checks.Checked.{Checked}
+use Rattle.cipher_mode.specs.declared.checks.Checked.TheVariants.{Passed, Refused}
+use Rattle.cipher_mode.specs.Answer.{refusal_head}
+use Rattle.cipher_mode.specs.Checks.{refuse, and_then, key_and_iv, data_check}
+use Rattle.cipher_mode.specs.Key.{key_number}
+use Rattle.editions.specs.Candidates.{bad_list, any_too_long}
+use Rattle.editions.specs.declared.Ended.{Ended}
+use Rattle.editions.specs.declared.Ended.TheVariants.{Candidate, None, BadList, Refused as RefusedHere}
+use Rattle.editions.specs.declared.Found.{Found}
 
 pub record Verdict : Type 0 where
   -- done for found and for none, otherwise the refusal
@@ -31,78 +27,78 @@ pub record Verdict : Type 0 where
   pub start : ℕ
   pub size : ℕ
 
-abbrev pub foundAt : ℕ → ℕ → ℕ → Verdict
-foundAt place start size = record { head = finished 0; found = true; place = place; start = start; size = size }
+abbrev pub found_at : ℕ → ℕ → ℕ → Verdict
+found_at place start size = record { head = finished 0; found = true; place = place; start = start; size = size }
 
 -- no candidate, with this report
-abbrev pub noneWith : Head → Verdict
-noneWith h = record { head = h; found = false; place = 0; start = 0; size = 0 }
+abbrev pub none_with : Head → Verdict
+none_with h = record { head = h; found = false; place = 0; start = 0; size = 0 }
 
 -- the same verdict, on the key of number k
-abbrev pub onKey : ℕ → Verdict → Verdict
-onKey k v = record { head = under k (v .head); found = v .found; place = v .place; start = v .start; size = v .size }
+abbrev pub on_key : ℕ → Verdict → Verdict
+on_key k v = record { head = under k v.head; found = v.found; place = v.place; start = v.start; size = v.size }
 
 -- the first candidate that passes the test; `labels` starts with the candidate at `place`, which stands at `start` of the buffer
-unfoldable pub firstOpening : (List ℕ → Bool) → List ℕ → List ℕ → ℕ → ℕ → Verdict
-firstOpening test labels [] place start = noneWith (finished 0)
-firstOpening test labels (n ∷ ns) place start =
-    cond (test (take n labels)) (foundAt place start n)
-    (firstOpening test (drop n labels) ns (place + 1) (start + n))
+unfoldable pub first_opening : (List ℕ → Bool) → List ℕ → List ℕ → ℕ → ℕ → Verdict
+first_opening test labels [] place start = none_with (finished 0)
+first_opening test labels (n ∷ ns) place start =
+    cond (test (take n labels)) (found_at place start n)
+    (first_opening test (drop n labels) ns (place + 1) (start + n))
 
 -- what is refused of a key, an IV and a file of these lengths, and of the labels' lengths
-unfoldable pub searchCheck : KeyAnswer → Bool → ℕ → ℕ → List ℕ → Checked
-searchCheck a retired iv file lengths =
-    andThen (keyAndIv a retired Decrypt Gcm iv)
-    (refuse (anyTooLong lengths) TooLong
-    (dataCheck Decrypt Gcm file))
+unfoldable pub search_check : KeyAnswer → Bool → ℕ → ℕ → List ℕ → Checked
+search_check a retired iv file lengths =
+    and_then (key_and_iv a retired Decrypt Gcm iv)
+    (refuse (any_too_long lengths) TooLong
+    (data_check Decrypt Gcm file))
 
 -- what was refused, or what comes next
-abbrev pub checkedVerdict : Checked → Verdict → Verdict
-checkedVerdict Passed next = next
-checkedVerdict (Refused r) next = noneWith (refusalHead r)
+abbrev pub checked_verdict : Checked → Verdict → Verdict
+checked_verdict Passed next = next
+checked_verdict (Refused r) next = none_with (refusal_head r)
 
 -- the test: whether the file opens under a label, by round keys, H and J0
-abbrev pub opensFile : List ℕ → ℕ → List ℕ → List ℕ → List ℕ → Bool
-opensFile rk h j file label = opensUnder rk h j label file
+abbrev pub opens_file : List ℕ → ℕ → List ℕ → List ℕ → List ℕ → Bool
+opens_file rk h j file label = opens_under rk h j label file
 
 -- the same by the cipher of J0
-abbrev pub opensMasked : List ℕ → ℕ → List ℕ → List ℕ → Bool
-opensMasked mask h file label = same (tagPart file) (maskedTag mask h label (textPart file))
+abbrev pub opens_masked : List ℕ → ℕ → List ℕ → List ℕ → Bool
+opens_masked mask h file label = same (tag_part file) (masked_tag mask h label (text_part file))
 
 -- and by a key's record and an IV
-abbrev pub opensWith : Sm4Cipher → List ℕ → List ℕ → List ℕ → Bool
-opensWith c iv file label = opensFile (c .rk) (hashKey (c .rk)) (J0 (c .rk) iv) file label
+abbrev pub opens_with : Sm4Cipher → List ℕ → List ℕ → List ℕ → Bool
+opens_with c iv file label = opens_file c.rk (hash_key c.rk) (J0 c.rk iv) file label
 
 -- the verdict on a key's record, a file, an IV and the candidates; a bad list is told before any key is looked at
 unfoldable pub which : Sm4Cipher → List ℕ → List ℕ → List ℕ → List ℕ → Verdict
 which c file iv labels lengths =
-    cond (badList labels lengths) (noneWith (refusal 16))
-    (onKey (keyNumber c)
-    (checkedVerdict (searchCheck (c .answer) (c .retired) (length iv) (length file) lengths)
-    (firstOpening (opensWith c iv file) labels lengths 0 0)))
+    cond (bad_list labels lengths) (none_with (refusal 16))
+    (on_key (key_number c)
+    (checked_verdict (search_check c.answer c.retired (length iv) (length file) lengths)
+    (first_opening (opens_with c iv file) labels lengths 0 0)))
 
 -- the label found, as a part of the buffer; empty in every other answer, and where the part lies outside
-unfoldable pub partOf : Verdict → List ℕ → List ℕ
-partOf v labels =
-    cond (v .found)
-    (cond (ltb (length labels) (v .start + v .size)) []
-    (take (v .size) (drop (v .start) labels)))
+unfoldable pub part_of : Verdict → List ℕ → List ℕ
+part_of v labels =
+    cond v.found
+    (cond (ltb (length labels) (v.start + v.size)) []
+    (take v.size (drop v.start labels)))
     []
 
-abbrev pub endedHead : Ended → Head
-endedHead Candidate = finished 0
-endedHead None = finished 0
-endedHead BadList = refusal 16
-endedHead (Refused·here r) = refusalHead r
+abbrev pub ended_head : Ended → Head
+ended_head Candidate = finished 0
+ended_head None = finished 0
+ended_head BadList = refusal 16
+ended_head (RefusedHere r) = refusal_head r
 
-abbrev pub isFound : Ended → Bool
-isFound Candidate = true
-isFound None = false
-isFound BadList = false
-isFound (Refused·here r) = false
+abbrev pub is_found : Ended → Bool
+is_found Candidate = true
+is_found None = false
+is_found BadList = false
+is_found (RefusedHere r) = false
 
 -- the verdict that an answer spells
-abbrev pub verdictOf : Found → Verdict
-verdictOf f =
-    let h = under (f .key) (endedHead (f .ended)) in
-    record { head = h; found = isFound (f .ended); place = f .place; start = f .start; size = f .length }
+abbrev pub verdict_of : Found → Verdict
+verdict_of f =
+    let h = under f.key (ended_head f.ended) in
+    record { head = h; found = is_found f.ended; place = f.place; start = f.start; size = f.length }

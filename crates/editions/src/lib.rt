@@ -1,24 +1,21 @@
 // Which of many labels a sealed file opens under. Nothing is decrypted and nothing is written.
-ghost use mathlib.Core.Path.{_≡_};
-ghost use mathlib.Core.Bool.{false};
-ghost use lib.Dec.{eqb};
-ghost use lib.ListN.{length};
-ghost use Rattle·block.specs.Wide.{value};
-ghost use Rattle·block.specs.Words.{unwords};
-ghost use Rattle·ghash.specs.Ghash.{blocks};
-ghost use Rattle·ghash.specs.Joined.{HalfOf};
-ghost use Rattle·gcm.specs.Gcm.{hashKey, J0, textPart};
-ghost use Rattle·cipher_mode.specs.Checks.{wrongIv, dataCheck};
-ghost use Rattle·editions·specs.specs.Candidates.{sum, badList, anyTooLong};
-ghost use Rattle·editions·specs.specs.Which.{onKey, firstOpening, searchCheck, opensFile, opensMasked, which, partOf, isFound, verdictOf};
+
+#![tactic(auto)]
+
+ghost use Rattle.std.specs.Prelude.{◌≡◌, false, eqb, length};
+ghost use Rattle.block.specs.Wide.{value};
+ghost use Rattle.block.specs.Words.{unwords};
+ghost use Rattle.ghash.specs.Ghash.{blocks};
+ghost use Rattle.ghash.specs.Joined.{HalfOf};
+ghost use Rattle.gcm.specs.Gcm.{hash_key, J0, text_part};
+ghost use Rattle.cipher_mode.specs.Checks.{wrong_iv, data_check};
+ghost use Rattle.editions.specs.Candidates.{sum, bad_list, any_too_long};
+ghost use Rattle.editions.specs.Which.{on_key, first_opening, search_check, opens_file, opens_masked, which, part_of, is_found, verdict_of};
+
 use block::U128;
-use cipher_mode::CipherMode;
-use cipher_mode::Direction;
-use cipher_mode::KeyAnswer;
-use cipher_mode::Sm4Cipher;
 use cipher_mode::answer::Refusal;
-use cipher_mode::checks::Checked;
-use cipher_mode::checks::LIMIT;
+use cipher_mode::checks::{Checked, LIMIT};
+use cipher_mode::{CipherMode, Direction, KeyAnswer, Sm4Cipher};
 use ghash::halves::Half;
 
 // The most candidates of one question.
@@ -26,6 +23,7 @@ const MOST: usize = 64;
 
 // How a question ended: with a candidate that opens the file, with none, which is no refusal, or refused. A bad list is more
 // than 64 candidates, or lengths that do not add up to the buffer.
+#[derive(Clone, Copy)]
 pub enum Ended {
     Candidate,
     None,
@@ -35,6 +33,7 @@ pub enum Ended {
 
 // How it ended; the number of the key that it was asked of, 0 where no key stands; the candidate's place, counted from 0, and
 // its part of the lent buffer. Place, start and length are 0 unless it ended with a candidate.
+#[derive(Drop)]
 pub struct Found {
     pub ended: Ended,
     pub key: u16,
@@ -45,7 +44,7 @@ pub struct Found {
 
 // An answer without a candidate.
 fn without(key: u16, ended: Ended) -> Found
-    ensures { λ r. ⌜ r ≡ record { ended = ended; key = key; place = 0; start = 0; length = 0 } ⌝ }
+    ensures { result ≡ record { ended = ended; key = key; place = 0; start = 0; length = 0 } }
 {
     Found {
         ended,
@@ -58,7 +57,7 @@ fn without(key: u16, ended: Ended) -> Found
 
 // Whether the lengths add up to `n`. What is left of `n` only shrinks, so no sum wraps.
 fn add_up(lengths: &[usize], n: usize) -> bool
-    ensures { λ r. ⌜ r ≡ eqb (sum (now (lengths .entry))) n ⌝ }
+    ensures { result ≡ eqb (sum lengths.now) n }
 {
     let mut left = n;
     let mut i = 0;
@@ -74,7 +73,7 @@ fn add_up(lengths: &[usize], n: usize) -> bool
 }
 
 fn bad_list(labels: &[u8], lengths: &[usize]) -> bool
-    ensures { λ r. ⌜ r ≡ badList (now (labels .entry)) (now (lengths .entry)) ⌝ }
+    ensures { result ≡ bad_list labels.now lengths.now }
 {
     if lengths.len() > MOST {
         return true;
@@ -83,7 +82,7 @@ fn bad_list(labels: &[u8], lengths: &[usize]) -> bool
 }
 
 fn any_too_long(lengths: &[usize]) -> bool
-    ensures { λ r. ⌜ r ≡ anyTooLong (now (lengths .entry)) ⌝ }
+    ensures { result ≡ any_too_long lengths.now }
 {
     let mut i = 0;
     while i < lengths.len() {
@@ -97,7 +96,7 @@ fn any_too_long(lengths: &[usize]) -> bool
 
 // All that is refused of a list in order, before a tag is looked at.
 fn check(answer: KeyAnswer, mark: bool, iv: usize, file: usize, lengths: &[usize]) -> Checked
-    ensures { λ r. ⌜ r ≡ searchCheck answer mark iv file (now (lengths .entry)) ⌝ }
+    ensures { result ≡ search_check answer mark iv file lengths.now }
 {
     let first = cipher_mode::checks::key_and_iv(
         answer,
@@ -125,11 +124,11 @@ fn search(
     labels: &[u8],
     lengths: &[usize],
 ) -> Found
-    requires { ⌜ HalfOf (value h) (blocks (textPart (now file))) half ⌝ }
-    requires { ⌜ dataCheck Direction.Decrypt CipherMode.Gcm (length (now file)) ≡ Checked.Passed ⌝ }
-    requires { ⌜ sum (now lengths) ≡ length (now labels) ⌝ }
-    requires { ⌜ anyTooLong (now lengths) ≡ false ⌝ }
-    ensures { λ r. ⌜ verdictOf r ≡ onKey key (firstOpening (opensMasked (unwords mask) (value h) (now (file .entry))) (now (labels .entry)) (now (lengths .entry)) 0 0) ⌝ }
+    requires half_of { HalfOf (value h) (blocks (text_part file.now)) half }
+    requires file_value { data_check Direction.Decrypt CipherMode.Gcm (length file.now) ≡ Checked.Passed }
+    requires lengths_value { sum lengths.now ≡ length labels.now }
+    requires lengths_value_2 { any_too_long lengths.now ≡ false }
+    ensures { verdict_of result ≡ on_key key (first_opening (opens_masked (unwords mask) (value h) file.now) labels.now lengths.now 0 0) }
 {
     let mut start = 0;
     let mut i = 0;
@@ -161,11 +160,11 @@ fn under_key(
     labels: &[u8],
     lengths: &[usize],
 ) -> Found
-    requires { ⌜ wrongIv CipherMode.Gcm (length (now iv)) ≡ false ⌝ }
-    requires { ⌜ dataCheck Direction.Decrypt CipherMode.Gcm (length (now file)) ≡ Checked.Passed ⌝ }
-    requires { ⌜ sum (now lengths) ≡ length (now labels) ⌝ }
-    requires { ⌜ anyTooLong (now lengths) ≡ false ⌝ }
-    ensures { λ r. ⌜ verdictOf r ≡ onKey key (firstOpening (opensFile rk (hashKey rk) (J0 rk (now (iv .entry))) (now (file .entry))) (now (labels .entry)) (now (lengths .entry)) 0 0) ⌝ }
+    requires iv_value { wrong_iv CipherMode.Gcm (length iv.now) ≡ false }
+    requires file_value { data_check Direction.Decrypt CipherMode.Gcm (length file.now) ≡ Checked.Passed }
+    requires lengths_value { sum lengths.now ≡ length labels.now }
+    requires lengths_value_2 { any_too_long lengths.now ≡ false }
+    ensures { verdict_of result ≡ on_key key (first_opening (opens_file rk (hash_key rk) (J0 rk iv.now) file.now) labels.now lengths.now 0 0) }
 {
     if lengths.len() == 0 {
         return without(key, Ended::None);
@@ -182,7 +181,7 @@ fn under_key(
 // The first of the candidates that the sealed file opens under, with a key's record, retired or not. The candidates are lent one
 // after another in `labels`, and `lengths` has the length of each.
 pub fn which(cipher: Sm4Cipher, file: &[u8], iv: &[u8], labels: &[u8], lengths: &[usize]) -> Found
-    ensures { λ r. ⌜ verdictOf r ≡ which cipher (now (file .entry)) (now (iv .entry)) (now (labels .entry)) (now (lengths .entry)) ⌝ }
+    ensures { verdict_of result ≡ which cipher file.now iv.now labels.now lengths.now }
 {
     if bad_list(labels, lengths) {
         return without(0, Ended::BadList);
@@ -199,7 +198,7 @@ pub fn which(cipher: Sm4Cipher, file: &[u8], iv: &[u8], labels: &[u8], lengths: 
 
 // Whether a question ended with a candidate.
 pub fn is_candidate(ended: Ended) -> bool
-    ensures { λ r. ⌜ r ≡ isFound ended ⌝ }
+    ensures { result ≡ is_found ended }
 {
     match ended {
         Ended::Candidate => true,
@@ -212,7 +211,7 @@ pub fn is_candidate(ended: Ended) -> bool
 // The label found, as a part of the buffer that the question was asked with; an empty part in every other answer, and where an
 // answer that a caller made up points outside.
 pub fn part(labels: &[u8], found: Found) -> &[u8]
-    ensures { λ r. ⌜ now r ≡ partOf (verdictOf found) (now (labels .entry)) ⌝ }
+    ensures { result.now ≡ part_of (verdict_of found) labels.now }
 {
     let ended = found.ended;
     let start = found.start;

@@ -1,27 +1,26 @@
 // Up to sixteen elements of the field times one, side by side. As in `carryless::many`, every step is one loop over n.
-ghost use mathlib.Core.Path.{_≡_};
-ghost use Prim.Native.Nat.{ℕ, _^_, _<_, _≤_};
-ghost use lib.ListN.{length, getD};
-ghost use Rattle·block.specs.Wide.{value};
-ghost use Rattle·block.specs.Xor.{_⊕_};
-ghost use Rattle·carryless.specs.Carryless.{joining128};
-ghost use Rattle·carryless.specs.Lanes.{Each, lane, Both};
-ghost use Rattle·carryless.specs.Lent.{PartsOf};
-ghost use Rattle·field·specs.specs.Field.{timesXs, gmul};
+ghost use Rattle.std.specs.Prelude.{◌≡◌, ℕ, ◌^◌, ◌<◌, ◌≤◌, length, get_or};
+ghost use Rattle.block.specs.Wide.{value};
+ghost use Rattle.block.specs.Xor.{◌⊕◌};
+ghost use Rattle.carryless.specs.Carryless.{joining128};
+ghost use Rattle.carryless.specs.Lanes.{Each, lane, Both};
+ghost use Rattle.carryless.specs.Lent.{PartsOf};
+ghost use Rattle.field.specs.Field.{times_xs, gmul};
+
 use crate::reduce;
 use block::U128;
 
 // The sum of two words.
 fn sum(a: u64, b: u64) -> u64
-    ensures { λ r. ⌜ (r ≡ a ⊕ b) × (a < 2 ^ 64) ⌝ }
+    ensures { (result ≡ a ⊕ b) × (a < 2 ^ 64) }
 {
     a ^ b
 }
 
 // The sums of n words.
 fn sums(a: &[u64; 16], b: &[u64; 16], n: usize) -> [u64; 16]
-    requires { ⌜ (n ≤ 16) × (length (now a) ≡ 16) × (length (now b) ≡ 16) ⌝ }
-    ensures { λ r. ⌜ Each (λ g. getD (now (a .entry)) g 0 ⊕ getD (now (b .entry)) g 0) n r × ((g : ℕ) → g < n → getD (now (a .entry)) g 0 < 2 ^ 64) ⌝ }
+    requires { (n ≤ 16) × (length a.now ≡ 16) × (length b.now ≡ 16) }
+    ensures { Each (λ g. get_or a.now g 0 ⊕ get_or b.now g 0) n result × ((g : ℕ) → g < n → get_or a.now g 0 < 2 ^ 64) }
 {
     let mut r = [0u64; 16];
     let mut g: usize = 0;
@@ -34,8 +33,8 @@ fn sums(a: &[u64; 16], b: &[u64; 16], n: usize) -> [u64; 16]
 
 // The element of three products of halves: h of the high halves, l of the low ones, and b of their sums.
 fn reduced(h: U128, l: U128, b: U128) -> U128
-    requires { ⌜ value h < 2 ^ 127 ⌝ }
-    ensures { λ r. ⌜ value r ≡ timesXs 127 (joining128 (value h) (value l) (value b)) ⌝ }
+    requires { value h < 2 ^ 127 }
+    ensures { value result ≡ times_xs 127 (joining128 (value h) (value l) (value b)) }
 {
     let p = carryless::joined128(h, l, b);
     reduce(p)
@@ -53,9 +52,9 @@ fn reduce_each(
     high: &mut [u64; 16],
     low: &mut [u64; 16],
 )
-    requires { ⌜ (n ≤ 16) × ((g : ℕ) → g < n → lane (now h1) (now h0) g < 2 ^ 127) ⌝ }
-    requires { ⌜ (length (now h1) ≡ 16) × (length (now h0) ≡ 16) × (length (now l1) ≡ 16) × (length (now l0) ≡ 16) × (length (now b1) ≡ 16) × (length (now b0) ≡ 16) × (length (now high) ≡ 16) × (length (now low) ≡ 16) ⌝ }
-    ensures { λ _. ⌜ Both (λ g. timesXs 127 (joining128 (lane (now (h1 .entry)) (now (h0 .entry)) g) (lane (now (l1 .entry)) (now (l0 .entry)) g) (lane (now (b1 .entry)) (now (b0 .entry)) g))) n (now (high .exit)) (now (low .exit)) × (length (now (high .exit)) ≡ 16) × (length (now (low .exit)) ≡ 16) ⌝ }
+    requires n_bound { (n ≤ 16) × ((g : ℕ) → g < n → lane h1.now h0.now g < 2 ^ 127) }
+    requires h1_len { (length h1.now ≡ 16) × (length h0.now ≡ 16) × (length l1.now ≡ 16) × (length l0.now ≡ 16) × (length b1.now ≡ 16) × (length b0.now ≡ 16) × (length high.old ≡ 16) × (length low.old ≡ 16) }
+    ensures { Both (λ g. times_xs 127 (joining128 (lane h1.now h0.now g) (lane l1.now l0.now g) (lane b1.now b0.now g))) n high.new low.new × (length high.new ≡ 16) × (length low.new ≡ 16) }
 {
     let mut g: usize = 0;
     while g < n {
@@ -80,8 +79,8 @@ fn reduce_each(
 
 // Each of n elements times y, whose parts are lent as m.
 pub fn multiply(y: U128, m: &[u32; 36], n: usize, high: &mut [u64; 16], low: &mut [u64; 16])
-    requires { ⌜ (n ≤ 16) × PartsOf y (now m) × (length (now high) ≡ 16) × (length (now low) ≡ 16) ⌝ }
-    ensures { λ _. ⌜ Both (λ g. gmul (lane (now (high .entry)) (now (low .entry)) g) (value y)) n (now (high .exit)) (now (low .exit)) × (length (now (high .exit)) ≡ 16) × (length (now (low .exit)) ≡ 16) ⌝ }
+    requires { (n ≤ 16) × PartsOf y m.now × (length high.old ≡ 16) × (length low.old ≡ 16) }
+    ensures { Both (λ g. gmul (lane high.old low.old g) (value y)) n high.new low.new × (length high.new ≡ 16) × (length low.new ≡ 16) }
 {
     let s = sums(low, high, n);
     let mut h1 = [0u64; 16];

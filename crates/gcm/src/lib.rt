@@ -1,21 +1,20 @@
 // GCM: libsm's `gcm_encrypt` and `gcm_decrypt`, over round keys, H and J0. The IV is the caller's: J0 is made of it once.
-ghost use mathlib.Core.Path.{_≡_};
-ghost use mathlib.Core.Logic.{_⊎_};
-ghost use mathlib.Core.Bool.{true, false};
-ghost use mathlib.Core.List.{List, _++_};
-ghost use Prim.Native.Nat.{ℕ, _+_, _-_, _*_, _<_, _≤_};
-ghost use lib.ListN.{length, take, drop};
-ghost use Rattle·block.specs.Blocks.{cat};
-ghost use Rattle·block.specs.Same.{same};
-ghost use Rattle·block.specs.Wide.{value};
-ghost use Rattle·block.specs.Words.{unwords};
-ghost use Rattle·cipher.specs.Engine.{Engine};
-ghost use Rattle·counter.specs.Counter.{jumped};
-ghost use Rattle·ghash.specs.Ghash.{Hashable, blocks};
-ghost use Rattle·ghash.specs.Joined.{HalfOf};
-ghost use Rattle·block.specs.Over.{over};
-ghost use Rattle·gcm·specs.specs.Gcm.{hashKey, nonceCounter, hashedCounter, firstCounter, J0, maskedTag, tagOf, sealed, textPart, tagPart, opensUnder, textInto};
-ghost use Rattle·gcm·specs.specs.Pads.{PadsFor};
+
+#![tactic(auto)]
+
+ghost use Rattle.std.specs.Prelude.{◌≡◌, ◌⊎◌, true, false, List, ◌++◌, ℕ, ◌+◌, ◌-◌, ◌*◌, ◌<◌, ◌≤◌, length, take, drop};
+ghost use Rattle.block.specs.Blocks.{cat};
+ghost use Rattle.block.specs.Same.{same};
+ghost use Rattle.block.specs.Wide.{value};
+ghost use Rattle.block.specs.Words.{unwords};
+ghost use Rattle.cipher.specs.Engine.{Engine};
+ghost use Rattle.counter.specs.Counter.{jumped};
+ghost use Rattle.ghash.specs.Ghash.{Hashable, blocks};
+ghost use Rattle.ghash.specs.Joined.{HalfOf};
+ghost use Rattle.block.specs.Over.{over};
+ghost use Rattle.gcm.specs.Gcm.{hash_key, nonce_counter, hashed_counter, first_counter, J0, masked_tag, tag_of, sealed, text_part, tag_part, opens_under, text_into};
+ghost use Rattle.gcm.specs.Pads.{PadsFor};
+
 use block::U128;
 use ghash::halves;
 use ghash::halves::Half;
@@ -23,16 +22,16 @@ use stream::Kind;
 
 // H, the cipher of sixteen zero bytes.
 pub fn hash_key(t: &[u32], rk: [u32; 32]) -> U128
-    requires { ⌜ Engine (now t) ⌝ }
-    ensures { λ r. ⌜ value r ≡ hashKey rk ⌝ }
+    requires { Engine t.now }
+    ensures { value result ≡ hash_key rk }
 {
     block::to_u128(cipher::encrypt(t, rk, [0u32; 4]))
 }
 
 // J0 of a 12-byte IV.
 fn nonce_counter(iv: &[u8]) -> [u32; 4]
-    requires { ⌜ length (now iv) ≡ 12 ⌝ }
-    ensures { λ r. ⌜ unwords r ≡ nonceCounter (now (iv .entry)) ⌝ }
+    requires { length iv.now ≡ 12 }
+    ensures { unwords result ≡ nonce_counter iv.now }
 {
     [
         block::word_at(iv, 0),
@@ -44,16 +43,16 @@ fn nonce_counter(iv: &[u8]) -> [u32; 4]
 
 // J0 of a 16-byte IV. The blocks of an empty label and the IV are the two that J0 is the hash of.
 fn hashed_counter(h: U128, iv: &[u8]) -> [u32; 4]
-    requires { ⌜ length (now iv) ≡ 16 ⌝ }
-    ensures { λ r. ⌜ unwords r ≡ hashedCounter (value h) (now (iv .entry)) ⌝ }
+    requires { length iv.now ≡ 16 }
+    ensures { unwords result ≡ hashed_counter (value h) iv.now }
 {
     block::from_u128(ghash::galois_hash(h, &iv[0..0], iv))
 }
 
 // J0 of an IV of twelve or of sixteen bytes.
 pub fn first_counter(h: U128, iv: &[u8]) -> [u32; 4]
-    requires { ⌜ (length (now iv) ≡ 12) ⊎ (length (now iv) ≡ 16) ⌝ }
-    ensures { λ r. ⌜ unwords r ≡ firstCounter (value h) (now (iv .entry)) ⌝ }
+    requires { (length iv.now ≡ 12) ⊎ (length iv.now ≡ 16) }
+    ensures { unwords result ≡ first_counter (value h) iv.now }
 {
     if iv.len() == 12 {
         return nonce_counter(iv);
@@ -63,17 +62,17 @@ pub fn first_counter(h: U128, iv: &[u8]) -> [u32; 4]
 
 // The tag of a label and a text under a mask.
 fn masked_tag(mask: [u32; 4], h: U128, aad: &[u8], text: &[u8]) -> [u32; 4]
-    requires { ⌜ Hashable (length (now aad)) × Hashable (length (now text)) ⌝ }
-    ensures { λ r. ⌜ unwords r ≡ maskedTag (unwords mask) (value h) (now (aad .entry)) (now (text .entry)) ⌝ }
+    requires { Hashable (length aad.now) × Hashable (length text.now) }
+    ensures { unwords result ≡ masked_tag (unwords mask) (value h) aad.now text.now }
 {
     let hash = block::from_u128(ghash::galois_hash(h, aad, text));
     block::block_xor(mask, hash)
 }
 
 fn tag(t: &[u32], rk: [u32; 32], h: U128, j0: [u32; 4], aad: &[u8], text: &[u8]) -> [u32; 4]
-    requires { ⌜ Engine (now t) ⌝ }
-    requires { ⌜ Hashable (length (now aad)) × Hashable (length (now text)) ⌝ }
-    ensures { λ r. ⌜ unwords r ≡ tagOf rk (value h) (unwords j0) (now (aad .entry)) (now (text .entry)) ⌝ }
+    requires engine { Engine t.now }
+    requires hashable { Hashable (length aad.now) × Hashable (length text.now) }
+    ensures { unwords result ≡ tag_of rk (value h) (unwords j0) aad.now text.now }
 {
     let mask = cipher::encrypt(t, rk, j0);
     masked_tag(mask, h, aad, text)
@@ -81,7 +80,7 @@ fn tag(t: &[u32], rk: [u32; 32], h: U128, j0: [u32; 4], aad: &[u8], text: &[u8])
 
 // Whether a text of n bytes goes in one batch with the zero block and J0: where the gates are lent, and all are at most 32 blocks.
 fn in_one_batch(t: &[u32], n: usize) -> bool
-    ensures { λ r. ⌜ (r ≡ true → n < 480) ⌝ }
+    ensures { result ≡ true → n < 480 }
 {
     if !cipher::by_gates(t) {
         return false;
@@ -91,16 +90,16 @@ fn in_one_batch(t: &[u32], n: usize) -> bool
 
 // J0 and the counters behind it, m in all, behind the first block of `out`.
 fn lay_behind(j0: [u32; 4], m: usize, out: &mut [u8])
-    requires { ⌜ (m ≤ 65) × (16 * m + 16 ≤ length (now out)) ⌝ }
-    ensures { λ _. ⌜ now (out .exit) ≡ take 16 (now (out .entry)) ++ over (cat m (jumped false (unwords j0))) (drop 16 (now (out .entry))) ⌝ }
+    requires { (m ≤ 65) × (16 * m + 16 ≤ length out.old) }
+    ensures { out.new ≡ take 16 out.old ++ over (cat m (jumped false (unwords j0))) (drop 16 out.old) }
 {
     stream::few::lay_counters(false, j0, m, &mut out[16..]);
 }
 
 // The ciphers of the zero block, of J0 and of the counters behind it, for a text of n bytes: H, the mask of its tag, and what it is xored with.
 fn pads_from(rk: [u32; 32], j0: [u32; 4], n: usize) -> [u8; 512]
-    requires { ⌜ n < 480 ⌝ }
-    ensures { λ r. ⌜ PadsFor rk (unwords j0) n r ⌝ }
+    requires { n < 480 }
+    ensures { PadsFor rk (unwords j0) n result }
 {
     let m = n / 16 + 2;
     let mut states = [0u8; 512];
@@ -111,6 +110,7 @@ fn pads_from(rk: [u32; 32], j0: [u32; 4], n: usize) -> [u8; 512]
 }
 
 // What a message starts with: H, J0, and, where they are ready, the pads of its text.
+#[derive(Drop)]
 pub struct Begun {
     pub h: U128,
     pub j0: [u32; 4],
@@ -120,11 +120,11 @@ pub struct Begun {
 
 // The start of a message with a text of n bytes. J0 of a 12-byte IV does not wait for H: all blocks go in one batch.
 pub fn start(t: &[u32], rk: [u32; 32], iv: &[u8], n: usize) -> Begun
-    requires { ⌜ Engine (now t) ⌝ }
-    requires { ⌜ (length (now iv) ≡ 12) ⊎ (length (now iv) ≡ 16) ⌝ }
-    ensures { λ r. ⌜ value (r .h) ≡ hashKey rk ⌝ }
-    ensures { λ r. ⌜ unwords (r .j0) ≡ J0 rk (now (iv .entry)) ⌝ }
-    ensures { λ r. ⌜ (r .ready ≡ true → PadsFor rk (unwords (r .j0)) n (r .pads)) ⌝ }
+    requires engine { Engine t.now }
+    requires fact { (length iv.now ≡ 12) ⊎ (length iv.now ≡ 16) }
+    ensures h_value { value result.h ≡ hash_key rk }
+    ensures j0_value { unwords result.j0 ≡ J0 rk iv.now }
+    ensures pads_for { result.ready ≡ true → PadsFor rk (unwords result.j0) n result.pads }
 {
     if !in_one_batch(t, n) {
         let h = hash_key(t, rk);
@@ -157,10 +157,10 @@ pub fn start(t: &[u32], rk: [u32; 32], iv: &[u8], n: usize) -> Begun
 
 // Seals a short text by its pads.
 fn encrypt_short(h: U128, pads: &[u8], aad: &[u8], data: &[u8], out: &mut [u8])
-    requires { ⌜ length (now «data») + 32 ≤ length (now pads) ⌝ }
-    requires { ⌜ Hashable (length (now aad)) × Hashable (length (now «data»)) ⌝ }
-    requires { ⌜ length (now «data») + 16 ≤ length (now out) ⌝ }
-    ensures { λ _. ⌜ ((rk j : List ℕ) → PadsFor rk j (length (now («data» .entry))) (now (pads .entry)) → now (out .exit) ≡ over (sealed rk (value h) j (now (aad .entry)) (now («data» .entry))) (now (out .entry))) ⌝ }
+    requires data_in_bounds { length «data».now + 32 ≤ length pads.now }
+    requires hashable { Hashable (length aad.now) × Hashable (length «data».now) }
+    requires data_in_bounds_2 { length «data».now + 16 ≤ length out.old }
+    ensures { (rk j : List ℕ) → PadsFor rk j (length «data».now) pads.now → out.new ≡ over (sealed rk (value h) j aad.now «data».now) out.old }
 {
     let n = data.len();
     let mask = block::split_block(&pads[16..]);
@@ -181,11 +181,11 @@ pub fn encrypt(
     data: &[u8],
     out: &mut [u8],
 )
-    requires { ⌜ Engine (now t) ⌝ }
-    requires { ⌜ (ready ≡ true → PadsFor rk (unwords j0) (length (now «data»)) (now pads)) ⌝ }
-    requires { ⌜ Hashable (length (now aad)) × Hashable (length (now «data»)) ⌝ }
-    requires { ⌜ length (now «data») + 16 ≤ length (now out) ⌝ }
-    ensures { λ _. ⌜ now (out .exit) ≡ over (sealed rk (value h) (unwords j0) (now (aad .entry)) (now («data» .entry))) (now (out .entry)) ⌝ }
+    requires engine { Engine t.now }
+    requires pads_for { ready ≡ true → PadsFor rk (unwords j0) (length «data».now) pads.now }
+    requires hashable { Hashable (length aad.now) × Hashable (length «data».now) }
+    requires data_in_bounds { length «data».now + 16 ≤ length out.old }
+    ensures { out.new ≡ over (sealed rk (value h) (unwords j0) aad.now «data».now) out.old }
 {
     if ready {
         encrypt_short(h, pads, aad, data, out);
@@ -200,8 +200,8 @@ pub fn encrypt(
 
 // The text part of a sealed message.
 pub fn text_part(data: &[u8]) -> &[u8]
-    requires { ⌜ 16 ≤ length (now «data») ⌝ }
-    ensures { λ r. ⌜ now r ≡ textPart (now («data» .entry)) ⌝ }
+    requires { 16 ≤ length «data».now }
+    ensures { result.now ≡ text_part «data».now }
 {
     let n = data.len() - 16;
     &data[0..n]
@@ -209,8 +209,8 @@ pub fn text_part(data: &[u8]) -> &[u8]
 
 // The tag part, its last sixteen bytes.
 pub fn tag_part(data: &[u8]) -> &[u8]
-    requires { ⌜ 16 ≤ length (now «data») ⌝ }
-    ensures { λ r. ⌜ now r ≡ tagPart (now («data» .entry)) ⌝ }
+    requires { 16 ≤ length «data».now }
+    ensures { result.now ≡ tag_part «data».now }
 {
     let n = data.len() - 16;
     &data[n..]
@@ -219,8 +219,8 @@ pub fn tag_part(data: &[u8]) -> &[u8]
 // Whether sixteen bytes are this tag. All of them are looked at, whatever the first ones are: the differences are added up, since of an
 // `|` of them the back end can make a jump for each.
 pub fn is_tag(bytes: &[u8], expected: [u32; 4]) -> bool
-    requires { ⌜ length (now bytes) ≡ 16 ⌝ }
-    ensures { λ r. ⌜ r ≡ same (now (bytes .entry)) (unwords expected) ⌝ }
+    requires { length bytes.now ≡ 16 }
+    ensures { result ≡ same bytes.now (unwords expected) }
 {
     let d = block::block_xor(block::split_block(bytes), expected);
     d[0] as u64 + d[1] as u64 + d[2] as u64 + d[3] as u64 == 0
@@ -228,28 +228,28 @@ pub fn is_tag(bytes: &[u8], expected: [u32; 4]) -> bool
 
 // Whether a sealed message has this tag.
 fn has_tag(data: &[u8], expected: [u32; 4]) -> bool
-    requires { ⌜ 16 ≤ length (now «data») ⌝ }
-    ensures { λ r. ⌜ r ≡ same (tagPart (now («data» .entry))) (unwords expected) ⌝ }
+    requires { 16 ≤ length «data».now }
+    ensures { result ≡ same (tag_part «data».now) (unwords expected) }
 {
     is_tag(tag_part(data), expected)
 }
 
 // Whether a sealed message opens under a label.
 pub fn opens(t: &[u32], rk: [u32; 32], h: U128, j0: [u32; 4], aad: &[u8], data: &[u8]) -> bool
-    requires { ⌜ Engine (now t) ⌝ }
-    requires { ⌜ Hashable (length (now aad)) × Hashable (length (now «data»)) ⌝ }
-    requires { ⌜ 16 ≤ length (now «data») ⌝ }
-    ensures { λ r. ⌜ r ≡ opensUnder rk (value h) (unwords j0) (now (aad .entry)) (now («data» .entry)) ⌝ }
+    requires engine { Engine t.now }
+    requires hashable { Hashable (length aad.now) × Hashable (length «data».now) }
+    requires in_bounds { 16 ≤ length «data».now }
+    ensures { result ≡ opens_under rk (value h) (unwords j0) aad.now «data».now }
 {
     has_tag(data, tag(t, rk, h, j0, aad, text_part(data)))
 }
 
 // The same by the cipher of J0, where the text has been hashed before: for a message that is asked about under many labels.
 pub fn opens_after(mask: [u32; 4], h: U128, half: Half, aad: &[u8], data: &[u8]) -> bool
-    requires { ⌜ Hashable (length (now aad)) × Hashable (length (now «data»)) ⌝ }
-    requires { ⌜ 16 ≤ length (now «data») ⌝ }
-    requires { ⌜ HalfOf (value h) (blocks (textPart (now «data»))) half ⌝ }
-    ensures { λ r. ⌜ r ≡ same (tagPart (now («data» .entry))) (maskedTag (unwords mask) (value h) (now (aad .entry)) (textPart (now («data» .entry)))) ⌝ }
+    requires hashable { Hashable (length aad.now) × Hashable (length «data».now) }
+    requires in_bounds { 16 ≤ length «data».now }
+    requires half_of { HalfOf (value h) (blocks (text_part «data».now)) half }
+    ensures { result ≡ same (tag_part «data».now) (masked_tag (unwords mask) (value h) aad.now (text_part «data».now)) }
 {
     let hash = halves::galois_hash_after(h, aad, text_part(data), half);
     has_tag(data, block::block_xor(mask, block::from_u128(hash)))
@@ -257,9 +257,9 @@ pub fn opens_after(mask: [u32; 4], h: U128, half: Half, aad: &[u8], data: &[u8])
 
 // Opens a sealed message with a short text, by its pads. Returns whether it opens.
 fn decrypt_short(h: U128, pads: &[u8], aad: &[u8], data: &[u8], out: &mut [u8]) -> bool
-    requires { ⌜ Hashable (length (now aad)) × Hashable (length (now «data»)) ⌝ }
-    requires { ⌜ (16 ≤ length (now «data»)) × (length (now «data») + 16 ≤ length (now pads)) × (length (now «data») - 16 ≤ length (now out)) ⌝ }
-    ensures { λ r. ⌜ ((rk j : List ℕ) → PadsFor rk j (length (now («data» .entry)) - 16) (now (pads .entry)) → (r ≡ opensUnder rk (value h) j (now (aad .entry)) (now («data» .entry))) × (now (out .exit) ≡ textInto rk (value h) j (now (aad .entry)) (now («data» .entry)) (now (out .entry)))) ⌝ }
+    requires hashable { Hashable (length aad.now) × Hashable (length «data».now) }
+    requires in_bounds { (16 ≤ length «data».now) × (length «data».now + 16 ≤ length pads.now) × (length «data».now - 16 ≤ length out.old) }
+    ensures { (rk j : List ℕ) → PadsFor rk j (length «data».now - 16) pads.now → (result ≡ opens_under rk (value h) j aad.now «data».now) × (out.new ≡ text_into rk (value h) j aad.now «data».now out.old) }
 {
     let text = text_part(data);
     let mask = block::split_block(&pads[16..]);
@@ -283,12 +283,12 @@ pub fn decrypt(
     data: &[u8],
     out: &mut [u8],
 ) -> bool
-    requires { ⌜ Engine (now t) ⌝ }
-    requires { ⌜ (ready ≡ true → PadsFor rk (unwords j0) (length (now «data») - 16) (now pads)) ⌝ }
-    requires { ⌜ Hashable (length (now aad)) × Hashable (length (now «data»)) ⌝ }
-    requires { ⌜ (16 ≤ length (now «data»)) × (length (now «data») - 16 ≤ length (now out)) ⌝ }
-    ensures { λ r. ⌜ r ≡ opensUnder rk (value h) (unwords j0) (now (aad .entry)) (now («data» .entry)) ⌝ }
-    ensures { λ _. ⌜ now (out .exit) ≡ textInto rk (value h) (unwords j0) (now (aad .entry)) (now («data» .entry)) (now (out .entry)) ⌝ }
+    requires engine { Engine t.now }
+    requires pads_for { ready ≡ true → PadsFor rk (unwords j0) (length «data».now - 16) pads.now }
+    requires hashable { Hashable (length aad.now) × Hashable (length «data».now) }
+    requires in_bounds { (16 ≤ length «data».now) × (length «data».now - 16 ≤ length out.old) }
+    ensures value { result ≡ opens_under rk (value h) (unwords j0) aad.now «data».now }
+    ensures out_after { out.new ≡ text_into rk (value h) (unwords j0) aad.now «data».now out.old }
 {
     if ready {
         return decrypt_short(h, pads, aad, data, out);

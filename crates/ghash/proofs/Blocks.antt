@@ -1,21 +1,21 @@
 -- Bytes as blocks: block by block, joined at a block's end, and with one more zero byte.
-use Rattle·ghash·proofs.proofs.Names.{AreBytes, Element, List, [], _%_, _*_, _++_, _+_, _-_, _/_, _<_, _∙_, _∷_, _≡_, _≢_, _≤_, ap}
-use Rattle·ghash·proofs.proofs.Names.{append-assoc, ap₂, arith, below-append, below-replicate, below-take, blockCount, blockNumber, blockOf}
-use Rattle·ghash·proofs.proofs.Names.{blocks, blocksFrom, drop, drop-append-le, drop-drop, drop-of-length-le, ext-getD, getD, getD-drop}
-use Rattle·ghash·proofs.proofs.Names.{getD-take, le-of-eq, length, length-append, length-drop, length-take, length-take-le, lit<, numberOf}
-use Rattle·ghash·proofs.proofs.Names.{numberOf-lt, numberOf-same, refl, replicate, suc, sym, take, take-all, take-append-drop}
-use Rattle·ghash·proofs.proofs.Names.{take-append-le, take-at, unwords, unwords-words, upTo, words, words-same, words-take, zero, ℕ}
+use Rattle.ghash.proofs.Names.{AreBytes, Element, List, [], ◌%◌, ◌*◌, ◌++◌, ◌+◌, ◌-◌, ◌/◌, ◌<◌, ◌∙◌, ◌∷◌, ◌≡◌, ◌≢◌, ◌≤◌, ap}
+use Rattle.ghash.proofs.Names.{append_assoc, ap₂, arith, below-append, below-replicate, below-take, block_count, block_number, block_of}
+use Rattle.ghash.proofs.Names.{blocks, blocks_from, drop, drop-append-le, drop-drop, drop_of_length-le, ext_get_or, get_or, get_or-drop}
+use Rattle.ghash.proofs.Names.{get_or-take, le_of_eq, length, length-append, length-drop, length-take, length-take-le, lit<, number_of}
+use Rattle.ghash.proofs.Names.{number_of-lt, number_of-same, refl, replicate, suc, sym, take, take_all, take-append-drop}
+use Rattle.ghash.proofs.Names.{take-append-le, take_at, unwords, unwords-words, up_to, words, words_same, words_take, zero, ℕ}
 
 -- the zeros after a list read like its end
-pub getD-zeros : (n i : ℕ) → _≡_ {A = ℕ} (getD (replicate n 0) i 0) 0
-getD-zeros zero i = refl
-getD-zeros (suc n) zero = refl
-getD-zeros (suc n) (suc i) = getD-zeros n i
+pub get_or-zeros : (n i : ℕ) → ◌≡◌ {A = ℕ} (get_or (replicate n 0) i 0) 0
+get_or-zeros zero i = refl
+get_or-zeros (suc n) zero = refl
+get_or-zeros (suc n) (suc i) = get_or-zeros n i
 
-pub getD-before-zeros : (bs : List ℕ) (n i : ℕ) → getD (bs ++ replicate n 0) i 0 ≡ getD bs i 0
-getD-before-zeros [] n i = getD-zeros n i
-getD-before-zeros (b ∷ bs) n zero = refl
-getD-before-zeros (b ∷ bs) n (suc i) = getD-before-zeros bs n i
+pub get_or-before-zeros : (bs : List ℕ) (n i : ℕ) → get_or (bs ++ replicate n 0) i 0 ≡ get_or bs i 0
+get_or-before-zeros [] n i = get_or-zeros n i
+get_or-before-zeros (b ∷ bs) n zero = refl
+get_or-before-zeros (b ∷ bs) n (suc i) = get_or-before-zeros bs n i
 
 -- the sixteen bytes of a block
 abbrev padded : List ℕ → List ℕ
@@ -27,86 +27,86 @@ padded-length bs = length-take-le 16 (bs ++ replicate 16 0) (simp length-append 
 padded-bytes : (bs : List ℕ) → AreBytes bs → AreBytes (padded bs)
 padded-bytes bs h = below-take 256 16 (bs ++ replicate 16 0) (below-append 256 bs (replicate 16 0) h (below-replicate 256 16 0 (lit< tt)))
 
-pub blockOf-lt : (bs : List ℕ) → AreBytes bs → Element (blockOf bs)
-unfolding blockOf
-blockOf-lt bs h = rw (padded-length bs) at (numberOf-lt (padded bs) (padded-bytes bs h))
+pub block_of-lt : (bs : List ℕ) → AreBytes bs → Element (block_of bs)
+unfolding block_of
+block_of-lt bs h = rw (padded-length bs) at (number_of-lt (padded bs) (padded-bytes bs h))
 
 -- a block that is full stands for itself, whatever follows
-blockOf-front : (p q : List ℕ) → 16 ≤ length p → blockOf (p ++ q) ≡ blockOf p
-unfolding blockOf
-blockOf-front p q h = rw (append-assoc p, take-append-le 16 p (q ++ replicate 16 0), take-append-le 16 p (replicate 16 0))
+block_of-front : (p q : List ℕ) → 16 ≤ length p → block_of (p ++ q) ≡ block_of p
+unfolding block_of
+block_of-front p q h = rw (append_assoc p, take-append-le 16 p (q ++ replicate 16 0), take-append-le 16 p (replicate 16 0))
 
-padded-at : (bs : List ℕ) (i : ℕ) → i < 16 → getD (padded bs) i 0 ≡ getD bs i 0
-padded-at bs i h = getD-take 16 (bs ++ replicate 16 0) i 0 h ∙ getD-before-zeros bs 16 i
+padded-at : (bs : List ℕ) (i : ℕ) → i < 16 → get_or (padded bs) i 0 ≡ get_or bs i 0
+padded-at bs i h = get_or-take 16 (bs ++ replicate 16 0) i 0 h ∙ get_or-before-zeros bs 16 i
 
 -- lists that read alike make the same blocks
-blockOf-alike : (a b : List ℕ) → ((i : ℕ) → getD a i 0 ≡ getD b i 0) → blockOf a ≡ blockOf b
-unfolding blockOf
-blockOf-alike a b e =
-    ap numberOf
-    (ext-getD 0 (padded a) (padded b) (padded-length a ∙ sym (padded-length b))
+block_of-alike : (a b : List ℕ) → ((i : ℕ) → get_or a i 0 ≡ get_or b i 0) → block_of a ≡ block_of b
+unfolding block_of
+block_of-alike a b e =
+    ap number_of
+    (ext_get_or 0 (padded a) (padded b) (padded-length a ∙ sym (padded-length b))
     (λ i l. let h : i < 16 = rw (padded-length a) at l in rw (padded-at a i h, padded-at b i h) (e i)))
 
-blocksFrom-alike : (k : ℕ) (a b : List ℕ) → ((i : ℕ) → getD a i 0 ≡ getD b i 0) → blocksFrom k a ≡ blocksFrom k b
-unfolding blocksFrom
-blocksFrom-alike zero a b e = refl
-blocksFrom-alike (suc k) a b e =
-    ap₂ _∷_ (blockOf-alike a b e) (blocksFrom-alike k _ _ (λ i. rw (getD-drop 16 a i 0, getD-drop 16 b i 0) (e (16 + i))))
+blocks_from-alike : (k : ℕ) (a b : List ℕ) → ((i : ℕ) → get_or a i 0 ≡ get_or b i 0) → blocks_from k a ≡ blocks_from k b
+unfolding blocks_from
+blocks_from-alike zero a b e = refl
+blocks_from-alike (suc k) a b e =
+    ap₂ ◌∷◌ (block_of-alike a b e) (blocks_from-alike k _ _ (λ i. rw (get_or-drop 16 a i 0, get_or-drop 16 b i 0) (e (16 + i))))
 
-pub blockOf-same : (a b : List ℕ) → length a ≡ length b → AreBytes a → AreBytes b → blockOf a ≡ blockOf b → take 16 a ≡ take 16 b
-unfolding blockOf
-blockOf-same a b l ha hb e =
-    let same = numberOf-same (padded a) (padded b) (padded-length a ∙ sym (padded-length b)) (padded-bytes a ha) (padded-bytes b hb) e in
-    ext-getD 0 (take 16 a) (take 16 b) (simp length-take (rw l))
+pub block_of-same : (a b : List ℕ) → length a ≡ length b → AreBytes a → AreBytes b → block_of a ≡ block_of b → take 16 a ≡ take 16 b
+unfolding block_of
+block_of-same a b l ha hb e =
+    let same = number_of-same (padded a) (padded b) (padded-length a ∙ sym (padded-length b)) (padded-bytes a ha) (padded-bytes b hb) e in
+    ext_get_or 0 (take 16 a) (take 16 b) (simp length-take (rw l))
     (λ i h.
     let k : i < 16 = omega (arith, length-take 16 a) in
-    rw (getD-take 16 a i 0, getD-take 16 b i 0, ← padded-at a i k, ← padded-at b i k, same))
+    rw (get_or-take 16 a i 0, get_or-take 16 b i 0, ← padded-at a i k, ← padded-at b i k, same))
 
 pub blocks-nil : blocks [] ≡ []
-unfolding blocks blocksFrom
+unfolding blocks blocks_from
 blocks-nil = refl
 
-pub blocks-cons : (bs : List ℕ) → 0 < length bs → blocks bs ≡ blockOf bs ∷ blocks (drop 16 bs)
-unfolding blocks blocksFrom
+pub blocks-cons : (bs : List ℕ) → 0 < length bs → blocks bs ≡ block_of bs ∷ blocks (drop 16 bs)
+unfolding blocks blocks_from
 blocks-cons bs h =
     let e : (length bs + 15) / 16 ≡ suc ((length (drop 16 bs) + 15) / 16) = simp length-drop (omega arith) in
-    ap (λ (n : ℕ). blocksFrom n bs) e
+    ap (λ (n : ℕ). blocks_from n bs) e
 
 -- from place i on
-pub blocks-at : (bs : List ℕ) (i : ℕ) → i < length bs → blocks (drop i bs) ≡ blockOf (drop i bs) ∷ blocks (drop (i + 16) bs)
-blocks-at bs i h = blocks-cons (drop i bs) (simp length-drop (omega arith)) ∙ rw (drop-drop 16 i bs)
+pub blocks_at : (bs : List ℕ) (i : ℕ) → i < length bs → blocks (drop i bs) ≡ block_of (drop i bs) ∷ blocks (drop (i + 16) bs)
+blocks_at bs i h = blocks-cons (drop i bs) (simp length-drop (omega arith)) ∙ rw (drop-drop 16 i bs)
 
-pub blocks-full : (bs : List ℕ) → length bs ≡ 16 → blocks bs ≡ numberOf bs ∷ []
-unfolding blockOf
-blocks-full bs e = blocks-cons bs (omega arith) ∙ rw (take-at bs (replicate 16 0) 16 e, drop-of-length-le bs (le-of-eq e), blocks-nil)
+pub blocks_full : (bs : List ℕ) → length bs ≡ 16 → blocks bs ≡ number_of bs ∷ []
+unfolding block_of
+blocks_full bs e = blocks-cons bs (omega arith) ∙ rw (take_at bs (replicate 16 0) 16 e, drop_of_length-le bs (le_of_eq e), blocks-nil)
 
-pub length-upTo : (n : ℕ) (f : ℕ → ℕ) → length (upTo n f) ≡ n
-unfolding upTo
-length-upTo zero f = refl
-length-upTo (suc n) f = ap suc (length-upTo n (λ i. f (suc i)))
+pub length-up_to : (n : ℕ) (f : ℕ → ℕ) → length (up_to n f) ≡ n
+unfolding up_to
+length-up_to zero f = refl
+length-up_to (suc n) f = ap suc (length-up_to n (λ i. f (suc i)))
 
 -- one by one
-blocksFrom-upTo : (k : ℕ) (bs : List ℕ) → blocksFrom k bs ≡ upTo k (blockNumber bs)
-unfolding blocksFrom upTo
-blocksFrom-upTo zero bs = refl
-blocksFrom-upTo (suc k) bs =
+blocks_from-up_to : (k : ℕ) (bs : List ℕ) → blocks_from k bs ≡ up_to k (block_number bs)
+unfolding blocks_from up_to
+blocks_from-up_to zero bs = refl
+blocks_from-up_to (suc k) bs =
     let next : (i : ℕ) → drop (16 * suc i) bs ≡ drop (16 * i) (drop 16 bs) =
     λ i. let e : 16 + 16 * i ≡ 16 * suc i = omega arith in rw (drop-drop (16 * i) 16 bs, e) in
-    simp (next, blocksFrom-upTo k (drop 16 bs))
+    simp (next, blocks_from-up_to k (drop 16 bs))
 
-pub blocks-upTo : (bs : List ℕ) → blocks bs ≡ upTo (blockCount (length bs)) (blockNumber bs)
+pub blocks-up_to : (bs : List ℕ) → blocks bs ≡ up_to (block_count (length bs)) (block_number bs)
 unfolding blocks
-blocks-upTo bs = blocksFrom-upTo (blockCount (length bs)) bs
+blocks-up_to bs = blocks_from-up_to (block_count (length bs)) bs
 
-pub length-blocks : (bs : List ℕ) → length (blocks bs) ≡ blockCount (length bs)
-length-blocks bs = rw (blocks-upTo bs) (length-upTo _ (blockNumber bs))
+pub length-blocks : (bs : List ℕ) → length (blocks bs) ≡ block_count (length bs)
+length-blocks bs = rw (blocks-up_to bs) (length-up_to _ (block_number bs))
 
 pub blocks-append : (k : ℕ) (p q : List ℕ) → length p ≡ 16 * k → blocks (p ++ q) ≡ blocks p ++ blocks q
 blocks-append zero [] q h = ap (λ (l : List ℕ). l ++ blocks q) (sym blocks-nil)
 blocks-append zero (x ∷ p) q h = absurd (omega arith)
 blocks-append (suc k) p q h =
     blocks-cons (p ++ q) (simp length-append (omega arith))
-    ∙ rw (blocks-cons p (omega arith), blockOf-front p q (omega arith), drop-append-le 16 p q (omega arith))
+    ∙ rw (blocks-cons p (omega arith), block_of-front p q (omega arith), drop-append-le 16 p q (omega arith))
     (rw (blocks-append k (drop 16 p) q (simp length-drop (omega arith))))
 
 -- one more zero byte makes no other blocks, where the last one has room for it
@@ -114,19 +114,19 @@ pub blocks-zero : (bs : List ℕ) → length bs % 16 ≢ 0 → blocks (bs ++ (0 
 unfolding blocks
 blocks-zero bs n =
     let e : (length (bs ++ (0 ∷ [])) + 15) / 16 ≡ (length bs + 15) / 16 = simp length-append (omega (arith, n)) in
-    rw e (blocksFrom-alike _ (bs ++ (0 ∷ [])) bs (getD-before-zeros bs 1))
+    rw e (blocks_from-alike _ (bs ++ (0 ∷ [])) bs (get_or-before-zeros bs 1))
 
 -- lists of which two parts are the same
-pub parts-same : (n : ℕ) (a b : List ℕ) → take n a ≡ take n b → drop n a ≡ drop n b → a ≡ b
-parts-same n a b p q = sym (take-append-drop n a) ∙ ap₂ _++_ p q ∙ take-append-drop n b
+pub parts_same : (n : ℕ) (a b : List ℕ) → take n a ≡ take n b → drop n a ≡ drop n b → a ≡ b
+parts_same n a b p q = sym (take-append-drop n a) ∙ ap₂ ◌++◌ p q ∙ take-append-drop n b
 
 -- the rest from place n on, as `&bs[n..]` is lent
-pub lent-all : (bs : List ℕ) (n : ℕ) → take (length bs - n) (drop n bs) ≡ drop n bs
-lent-all bs n = take-all (length bs - n) (drop n bs) (le-of-eq (length-drop n bs))
+pub lent_all : (bs : List ℕ) (n : ℕ) → take (length bs - n) (drop n bs) ≡ drop n bs
+lent_all bs n = take_all (length bs - n) (drop n bs) (le_of_eq (length-drop n bs))
 
 -- the block at the front by its words
-pub blockOf-words : (bs : List ℕ) → AreBytes bs → numberOf (unwords (words bs)) ≡ blockOf bs
-unfolding blockOf
-blockOf-words bs h =
-    let e = words-take (bs ++ replicate 16 0) ∙ words-same (bs ++ replicate 16 0) bs (λ i k. getD-before-zeros bs 16 i) in
-    ap numberOf (ap unwords (sym e) ∙ unwords-words (padded bs) (padded-length bs) (padded-bytes bs h))
+pub block_of-words : (bs : List ℕ) → AreBytes bs → number_of (unwords (words bs)) ≡ block_of bs
+unfolding block_of
+block_of-words bs h =
+    let e = words_take (bs ++ replicate 16 0) ∙ words_same (bs ++ replicate 16 0) bs (λ i k. get_or-before-zeros bs 16 i) in
+    ap number_of (ap unwords (sym e) ∙ unwords-words (padded bs) (padded-length bs) (padded-bytes bs h))

@@ -1,9 +1,5 @@
 -- Two lists of bytes that differ inside exactly one 16-byte block.
-use mathlib.Core.Path.{_≡_}
-use mathlib.Core.Logic.{_≢_}
-use mathlib.Core.List.{List}
-use Prim.Native.Nat.{ℕ, _+_, _*_}
-use lib.ListN.{length, take, drop}
+use Rattle.std.specs.Prelude.{◌≡◌, ◌≢◌, List, ℕ, ◌+◌, ◌*◌, length, take, drop}
 
 pub record OneBlock (a b : List ℕ) : Type 0 where
   pub apart : a ≢ b

@@ -1,23 +1,19 @@
 -- Hashes side by side: sets of n blocks, and what the state of n such hashes stands for.
-use mathlib.Core.Path.{_≡_}
-use mathlib.Core.Logic.{_⊎_}
-use mathlib.Core.List.{List, [], _∷_}
-use Prim.Native.Nat.{ℕ, zero, suc, _*_, _<_}
-use lib.ListN.{drop}
-use Rattle·ghash·specs.specs.Ghash.{blockOf, hashFrom, ghash}
+use Rattle.std.specs.Prelude.{◌≡◌, ◌⊎◌, List, [], ◌∷◌, ℕ, zero, suc, ◌*◌, ◌<◌, drop}
+use Rattle.ghash.specs.Ghash.{block_of, hash_from, ghash}
 
 -- how many there may be
 abbrev pub LaneCount : ℕ → Type 0
 LaneCount n = (n ≡ 8) ⊎ (n ≡ 16)
 
 -- the numbers f 0 .. f (n - 1)
-unfoldable pub upTo : ℕ → (ℕ → ℕ) → List ℕ
-upTo zero f = []
-upTo (suc n) f = f 0 ∷ upTo n (λ i. f (suc i))
+unfoldable pub up_to : ℕ → (ℕ → ℕ) → List ℕ
+up_to zero f = []
+up_to (suc n) f = f 0 ∷ up_to n (λ i. f (suc i))
 
 -- block i of bytes
-abbrev pub blockNumber : List ℕ → ℕ → ℕ
-blockNumber bs i = blockOf (drop (16 * i) bs)
+abbrev pub block_number : List ℕ → ℕ → ℕ
+block_number bs i = block_of (drop (16 * i) bs)
 
 -- of n hashes f y is the first, and the others are 0
 pub record Starts (n y : ℕ) (f : ℕ → ℕ) : Type 0 where
@@ -26,4 +22,4 @@ pub record Starts (n y : ℕ) (f : ℕ → ℕ) : Type 0 where
 
 -- the n hashed like blocks are the hash of the blocks bs from y on
 abbrev pub Hashed : ℕ → ℕ → List ℕ → ℕ → (ℕ → ℕ) → Type 0
-Hashed h y bs n f = ghash h (upTo n f) ≡ hashFrom h y bs
+Hashed h y bs n f = ghash h (up_to n f) ≡ hash_from h y bs

@@ -1,17 +1,17 @@
 // Hashes of halves, and how they join: each half is hashed by itself, and the first's hash is then multiplied by H to the second's block
 // count.
-ghost use mathlib.Core.Path.{_≡_};
-ghost use lib.ListN.{length};
-ghost use Rattle·block.specs.Wide.{value};
-ghost use Rattle·block.specs.Xor.{_⊕_};
-ghost use Rattle·field.specs.Field.{gmul};
-ghost use Rattle·ghash·specs.specs.Ghash.{Hashable, blocks, authBlocks, ghash};
-ghost use Rattle·ghash·specs.specs.Joined.{joined, HalfOf};
-use crate::Ghash;
-use crate::block_count;
+ghost use Rattle.std.specs.Prelude.{◌≡◌, length};
+ghost use Rattle.block.specs.Wide.{value};
+ghost use Rattle.block.specs.Xor.{◌⊕◌};
+ghost use Rattle.field.specs.Field.{gmul};
+ghost use Rattle.ghash.specs.Ghash.{Hashable, blocks, auth_blocks, ghash};
+ghost use Rattle.ghash.specs.Joined.{joined, HalfOf};
+
+use crate::{Ghash, block_count};
 use block::U128;
 
 // What is kept of blocks to join any hash before them to theirs: their hash, and H to their count.
+#[derive(Clone, Copy)]
 pub struct Half {
     pub hash: U128,
     pub power: U128,
@@ -19,7 +19,7 @@ pub struct Half {
 
 // The hash of `bytes` in blocks, zeros to the last one's end.
 pub fn hash_blocks(h: U128, bytes: &[u8]) -> U128
-    ensures { λ r. ⌜ value r ≡ ghash (value h) (blocks (now (bytes .entry))) ⌝ }
+    ensures { value result ≡ ghash (value h) (blocks bytes.now) }
 {
     let start = Ghash::new(h);
     let end = start.absorb_all(bytes);
@@ -29,7 +29,7 @@ pub fn hash_blocks(h: U128, bytes: &[u8]) -> U128
 impl Half {
     // What is kept of the blocks of `bytes`.
     pub fn of(h: U128, bytes: &[u8]) -> Half
-        ensures { λ r. ⌜ HalfOf (value h) (blocks (now (bytes .entry))) r ⌝ }
+        ensures { HalfOf (value h) (blocks bytes.now) result }
     {
         let count = block_count(bytes.len());
         Half {
@@ -40,7 +40,7 @@ impl Half {
 
     // The hash `first`, and then these blocks.
     pub fn after(self, first: U128) -> U128
-        ensures { λ r. ⌜ value r ≡ gmul (value first) (value (self .power)) ⊕ value (self .hash) ⌝ }
+        ensures { value result ≡ gmul (value first) (value self.power) ⊕ value self.hash }
     {
         field::add(field::galois_mul(first, self.power), self.hash)
     }
@@ -48,7 +48,7 @@ impl Half {
 
 // The hash of two lists of blocks joined, from the hash of each and the second's block count.
 pub fn join(h: U128, first: U128, second: U128, count: u64) -> U128
-    ensures { λ r. ⌜ value r ≡ joined (value h) (value first) (value second) count ⌝ }
+    ensures { value result ≡ joined (value h) (value first) (value second) count }
 {
     let half = Half {
         hash: second,
@@ -59,9 +59,9 @@ pub fn join(h: U128, first: U128, second: U128, count: u64) -> U128
 
 // `galois_hash`, where the text has been hashed before: what is kept of its blocks is joined to the label's hash.
 pub fn galois_hash_after(h: U128, label: &[u8], text: &[u8], half: Half) -> U128
-    requires { ⌜ Hashable (length (now label)) × Hashable (length (now text)) ⌝ }
-    requires { ⌜ HalfOf (value h) (blocks (now text)) half ⌝ }
-    ensures { λ r. ⌜ value r ≡ ghash (value h) (authBlocks (now (label .entry)) (now (text .entry))) ⌝ }
+    requires hashable { Hashable (length label.now) × Hashable (length text.now) }
+    requires half_of { HalfOf (value h) (blocks text.now) half }
+    ensures { value result ≡ ghash (value h) (auth_blocks label.now text.now) }
 {
     let y = half.after(hash_blocks(h, label));
     let texted = Ghash { h, y };

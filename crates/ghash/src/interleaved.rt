@@ -1,16 +1,15 @@
 // The hash of long texts: 8 or 16 interleaved hashes side by side, each of which takes every 8th or 16th block and is multiplied by H to the 8th
 // or 16th. At the end they are hashed like blocks, which joins them. Neither an index nor a branch depends on a secret.
-ghost use mathlib.Core.Path.{_≡_};
-ghost use Prim.Native.Nat.{ℕ, _*_, _<_, _≤_};
-ghost use lib.ListN.{length};
-ghost use Rattle·block.specs.Wide.{value};
-ghost use Rattle·block.specs.Xor.{_⊕_};
-ghost use Rattle·carryless.specs.Lanes.{lane, Both};
-ghost use Rattle·carryless.specs.Lent.{PartsOf};
-ghost use Rattle·field.specs.Field.{Element, gpow};
-ghost use Rattle·ghash·specs.specs.Absorbed.{Absorbed};
-ghost use Rattle·ghash·specs.specs.Ghash.{blocks};
-ghost use Rattle·ghash·specs.specs.Sets.{LaneCount, upTo, blockNumber, Starts, Hashed};
+ghost use Rattle.std.specs.Prelude.{◌≡◌, ℕ, ◌*◌, ◌<◌, ◌≤◌, length};
+ghost use Rattle.block.specs.Wide.{value};
+ghost use Rattle.block.specs.Xor.{◌⊕◌};
+ghost use Rattle.carryless.specs.Lanes.{lane, Both};
+ghost use Rattle.carryless.specs.Lent.{PartsOf};
+ghost use Rattle.field.specs.Field.{Element, gpow};
+ghost use Rattle.ghash.specs.Absorbed.{Absorbed};
+ghost use Rattle.ghash.specs.Ghash.{blocks};
+ghost use Rattle.ghash.specs.Sets.{LaneCount, up_to, block_number, Starts, Hashed};
+
 use crate::Ghash;
 use block::U128;
 
@@ -21,16 +20,16 @@ const SIXTEEN_FROM: usize = 1024;
 // How many hashes n bytes are worth. That it is not always the same is also what keeps the back end from knowing it: a loop whose count it
 // knows is not vectorized here.
 fn lanes_for(n: usize) -> usize
-    requires { ⌜ 256 ≤ n ⌝ }
-    ensures { λ r. ⌜ LaneCount r × (16 * r ≤ n) ⌝ }
+    requires { 256 ≤ n }
+    ensures { LaneCount result × (16 * result ≤ n) }
 {
     if n < SIXTEEN_FROM { 8 } else { 16 }
 }
 
 // H to the n.
 fn lane_power(h: U128, n: usize) -> U128
-    requires { ⌜ LaneCount n ⌝ }
-    ensures { λ r. ⌜ value r ≡ gpow (value h) n ⌝ }
+    requires { LaneCount n }
+    ensures { value result ≡ gpow (value h) n }
 {
     let to2 = field::squared(h);
     let to4 = field::squared(to2);
@@ -43,8 +42,8 @@ fn lane_power(h: U128, n: usize) -> U128
 
 // To each of n hashes its block of the n at the front of `bytes`.
 fn add_set(bytes: &[u8], n: usize, high: &mut [u64; 16], low: &mut [u64; 16])
-    requires { ⌜ (n ≤ 16) × (16 * n ≤ length (now bytes)) × (length (now high) ≡ 16) × (length (now low) ≡ 16) ⌝ }
-    ensures { λ _. ⌜ Both (λ k. lane (now (high .entry)) (now (low .entry)) k ⊕ blockNumber (now (bytes .entry)) k) n (now (high .exit)) (now (low .exit)) × ((k : ℕ) → k < n → Element (lane (now (high .exit)) (now (low .exit)) k)) × (length (now (high .exit)) ≡ 16) × (length (now (low .exit)) ≡ 16) ⌝ }
+    requires { (n ≤ 16) × (16 * n ≤ length bytes.now) × (length high.old ≡ 16) × (length low.old ≡ 16) }
+    ensures { Both (λ k. lane high.old low.old k ⊕ block_number bytes.now k) n high.new low.new × ((k : ℕ) → k < n → Element (lane high.new low.new k)) × (length high.new ≡ 16) × (length low.new ≡ 16) }
 {
     let mut k: usize = 0;
     while k < n {
@@ -73,8 +72,8 @@ fn absorb_sets(
     high: &mut [u64; 16],
     low: &mut [u64; 16],
 ) -> usize
-    requires { ⌜ PartsOf p (now m) × (1 ≤ n) × (n ≤ 16) × (16 * n ≤ length (now bytes)) × (length (now high) ≡ 16) × (length (now low) ≡ 16) ⌝ }
-    ensures { λ r. ⌜ ((h y : ℕ) → Element h → value p ≡ gpow h n → Starts n y (lane (now (high .entry)) (now (low .entry))) → Hashed h y (upTo r (blockNumber (now (bytes .entry)))) n (lane (now (high .exit)) (now (low .exit)))) × (16 * r ≤ length (now (bytes .entry))) × (length (now (high .exit)) ≡ 16) × (length (now (low .exit)) ≡ 16) ⌝ }
+    requires { PartsOf p m.now × (1 ≤ n) × (n ≤ 16) × (16 * n ≤ length bytes.now) × (length high.old ≡ 16) × (length low.old ≡ 16) }
+    ensures { ((h y : ℕ) → Element h → value p ≡ gpow h n → Starts n y (lane high.old low.old) → Hashed h y (up_to result (block_number bytes.now)) n (lane high.new low.new)) × (16 * result ≤ length bytes.now) × (length high.new ≡ 16) × (length low.new ≡ 16) }
 {
     let all = bytes.len() / 16;
     add_set(bytes, n, high, low);
@@ -90,8 +89,8 @@ fn absorb_sets(
 
 // The first n hashes, one after the other.
 fn absorb_hashes(g: Ghash, n: usize, high: &[u64; 16], low: &[u64; 16]) -> Ghash
-    requires { ⌜ (n ≤ 16) × (length (now high) ≡ 16) × (length (now low) ≡ 16) ⌝ }
-    ensures { λ r. ⌜ Absorbed g (upTo n (lane (now (high .entry)) (now (low .entry)))) r ⌝ }
+    requires { (n ≤ 16) × (length high.now ≡ 16) × (length low.now ≡ 16) }
+    ensures { Absorbed g (up_to n (lane high.now low.now)) result }
 {
     let m = carryless::parts(g.h);
     let mut state = g;
@@ -109,8 +108,8 @@ fn absorb_hashes(g: Ghash, n: usize, high: &[u64; 16], low: &[u64; 16]) -> Ghash
 
 // All of `bytes`, zeros to the last block's end.
 pub(crate) fn absorb_lanes(g: Ghash, bytes: &[u8]) -> Ghash
-    requires { ⌜ 256 ≤ length (now bytes) ⌝ }
-    ensures { λ r. ⌜ Absorbed g (blocks (now (bytes .entry))) r ⌝ }
+    requires { 256 ≤ length bytes.now }
+    ensures { Absorbed g (blocks bytes.now) result }
 {
     let n = lanes_for(bytes.len());
     let p = lane_power(g.h, n);

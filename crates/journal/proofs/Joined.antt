@@ -1,125 +1,125 @@
 -- The report of two journals joined is their reports added, where the first is replayed to its end: what a journal adds to a report does
 -- not depend on the report.
-use Rattle·journal·proofs.proofs.Names.{AddsUp, Bool, Difference, Entry, Keys, List, Recomputed, Replayed, Report, Sm4Cipher, Stands, []}
-use Rattle·journal·proofs.proofs.Names.{_++_, _+_, _<_, _∙_, _∷_, _≡_, add-assoc, add-zero, added, ap, arith, badKeys, behindReport}
-use Rattle·journal·proofs.proofs.Names.{by-test, cond, counted, countedUnder, drop, drop-append-le, drop-of-length-le, earlier, false}
-use Rattle·journal·proofs.proofs.Names.{firstOf, front, judged, keyOf, keysIn, length, length-drop, modePlace, ne-eqb, nothing, numberOfEnd}
-use Rattle·journal·proofs.proofs.Names.{oneMore, recomputed, refl, replay, replayFrom, replayOne, replicate, sizeAt, suc, sums, sym}
-use Rattle·journal·proofs.proofs.Names.{tail-is, tailed, take, take-append-le, true, zero, ℕ}
-use Rattle·journal·proofs.proofs.Lent.{recomputed-known}
-use Rattle·journal·proofs.proofs.Counting.{same-report, mode-below-6}
-use Rattle·journal·proofs.proofs.Sums.{adds-counted, replay-adds-up, adds-nothing}
-use Rattle·journal·proofs.proofs.Replaying.{from-end, from-refused, from-on, by-replay, Passes, refuses, counts, passed, from-start}
-use Rattle·journal·proofs.proofs.Standing.{stands, starts, size-within, starts-in, front-in, size-in}
+use Rattle.journal.proofs.Names.{AddsUp, Bool, Difference, Entry, Keys, List, Recomputed, Replayed, Report, Sm4Cipher, Stands, []}
+use Rattle.journal.proofs.Names.{◌++◌, ◌+◌, ◌<◌, ◌∙◌, ◌∷◌, ◌≡◌, add_assoc, add-zero, added, ap, arith, bad_keys, behind_report}
+use Rattle.journal.proofs.Names.{by_test, cond, counted, counted_under, drop, drop-append-le, drop_of_length-le, earlier, false}
+use Rattle.journal.proofs.Names.{first_of, front, judged, key_of, keys_in, length, length-drop, mode_place, ne_eqb, nothing, number_of_end}
+use Rattle.journal.proofs.Names.{one_more, recomputed, refl, replay, replay_from, replay_one, replicate, size_at, suc, sums, sym}
+use Rattle.journal.proofs.Names.{tail_is, tailed, take, take-append-le, true, zero, ℕ}
+use Rattle.journal.proofs.Lent.{recomputed-known}
+use Rattle.journal.proofs.Counting.{same-report, mode-below_6}
+use Rattle.journal.proofs.Sums.{adds_counted, replay_adds_up, adds_nothing}
+use Rattle.journal.proofs.Replaying.{from_end, from_refused, from_on, by_replay, Passes, refuses, counts, passed, from_start}
+use Rattle.journal.proofs.Standing.{stands, starts, size-within, starts_in, front_in, size_in}
 
-sums-more : (a b : List ℕ) (i : ℕ) → i < length a → i < length b → sums a (oneMore i b) ≡ oneMore i (sums a b)
+sums_more : (a b : List ℕ) (i : ℕ) → i < length a → i < length b → sums a (one_more i b) ≡ one_more i (sums a b)
 unfolding sums
-sums-more [] b i h k = absurd (omega arith)
-sums-more (x ∷ a) [] i h k = absurd (omega arith)
-sums-more (x ∷ a) (y ∷ b) zero h k = rw (add-assoc x y 1)
-sums-more (x ∷ a) (y ∷ b) (suc i) h k = ap (λ (l : List ℕ). (x + y) ∷ l) (sums-more a b i (omega arith) (omega arith))
+sums_more [] b i h k = absurd (omega arith)
+sums_more (x ∷ a) [] i h k = absurd (omega arith)
+sums_more (x ∷ a) (y ∷ b) zero h k = rw (add_assoc x y 1)
+sums_more (x ∷ a) (y ∷ b) (suc i) h k = ap (λ (l : List ℕ). (x + y) ∷ l) (sums_more a b i (omega arith) (omega arith))
 
-sums-none : (a : List ℕ) (n : ℕ) → length a ≡ n → sums a (replicate n 0) ≡ a
+sums_none : (a : List ℕ) (n : ℕ) → length a ≡ n → sums a (replicate n 0) ≡ a
 unfolding sums
-sums-none [] n h = refl
-sums-none (x ∷ a) n h = rw (← h, add-zero x, sums-none a (length a) refl)
+sums_none [] n h = refl
+sums_none (x ∷ a) n h = rw (← h, add-zero x, sums_none a (length a) refl)
 
 -- the first difference of the two, where the record at a place of the second differs or does not
 first-added : (t : Bool) (d e : Difference) (n m p place : ℕ)
-    → firstOf t (n + m) (p + place) (earlier d n p e) ≡ earlier d n p (firstOf t m place e)
+    → first_of t (n + m) (p + place) (earlier d n p e) ≡ earlier d n p (first_of t m place e)
 first-added t d e n m p place =
-    by-test (d .found) (λ f. rw f)
-    (λ f. by-test (e .found) (λ g. rw (f, g)) (λ g. by-test t (λ h. rw (f, g, h)) (λ h. rw (f, g, h))))
+    by_test d.found (λ f. rw f)
+    (λ f. by_test e.found (λ g. rw (f, g)) (λ g. by_test t (λ h. rw (f, g, h)) (λ h. rw (f, g, h))))
 
-pub either-way : (t : Bool) (d : Difference) → cond t d d ≡ d
-either-way true d = refl
-either-way false d = refl
+pub either_way : (t : Bool) (d : Difference) → cond t d d ≡ d
+either_way true d = refl
+either_way false d = refl
 
 module _ (p : ℕ) (r : Report) (adds : AddsUp r) where
-  pub added-none : added p r nothing ≡ r
+  pub added_none : added p r nothing ≡ r
   unfolding added
-  added-none =
-      same-report (omega arith) (sums-none (r .«by_mode») 6 (adds .modes)) (sums-none (r .«by_answer») 32 (adds .answers)) (omega arith)
-      (omega arith) (either-way (r .first .found) (r .first))
+  added_none =
+      same-report (omega arith) (sums_none r.by_mode 6 adds.modes) (sums_none r.by_answer 32 adds.answers) (omega arith)
+      (omega arith) (either_way r.first.found r.first)
 
-  added-counted : (e : Entry) (x : Recomputed) (place : ℕ) (s : Report) → AddsUp s → x .number < 27
+  added-counted : (e : Entry) (x : Recomputed) (place : ℕ) (s : Report) → AddsUp s → x.number < 27
       → counted e x (p + place) (added p r s) ≡ added p r (counted e x place s)
   unfolding added counted
   added-counted e x place s like known =
-      let m = mode-below-6 (e .mode) in
-      same-report (omega arith) (sym (sums-more (r .«by_mode») (s .«by_mode») (modePlace (e .mode)) (omega arith) (omega arith)))
-      (sym (sums-more (r .«by_answer») (s .«by_answer») (x .number) (omega arith) (omega arith))) (omega arith) (omega arith)
-      (first-added (x .differs) (r .first) (s .first) (r .records) (s .records) p place)
+      let m = mode-below_6 e.mode in
+      same-report (omega arith) (sym (sums_more r.by_mode s.by_mode (mode_place e.mode) (omega arith) (omega arith)))
+      (sym (sums_more r.by_answer s.by_answer x.number (omega arith) (omega arith))) (omega arith) (omega arith)
+      (first-added x.differs r.first s.first r.records s.records p place)
 
-  pub from-added : (ks : List Sm4Cipher) (b : List ℕ) (place : ℕ) (s : Report) → AddsUp s
-      → replayFrom ks b (p + place) (added p r s) ≡ behindReport p r (replayFrom ks b place s)
-  unfolding behindReport
-  from-added ks =
-      by-replay ks (λ b place s x. AddsUp s → replayFrom ks b (p + place) (added p r s) ≡ behindReport p r x)
-      (λ b place s e like. from-end ks b (p + place) (added p r s) e)
+  pub from_added : (ks : List Sm4Cipher) (b : List ℕ) (place : ℕ) (s : Report) → AddsUp s
+      → replay_from ks b (p + place) (added p r s) ≡ behind_report p r (replay_from ks b place s)
+  unfolding behind_report
+  from_added ks =
+      by_replay ks (λ b place s x. AddsUp s → replay_from ks b (p + place) (added p r s) ≡ behind_report p r x)
+      (λ b place s e like. from_end ks b (p + place) (added p r s) e)
       (λ b place s h e w like.
-      from-refused ks b (p + place) (added p r s) h e w ∙ sym (rw (ne-eqb (numberOfEnd e) 0 (refuses ks b place s e w .1))))
+      from_refused ks b (p + place) (added p r s) h e w ∙ sym (rw (ne_eqb (number_of_end e) 0 (refuses ks b place s e w).1)))
       (λ b place s x q more like.
-      let c = keyOf (front b .key) ks in
+      let c = key_of (front b).key ks in
       let known = recomputed-known c (front b) in
-      from-on ks b (p + place) (added p r s) q
-      ∙ rw (add-assoc p place (sizeAt b), added-counted (front b) (judged (front b) (recomputed c (front b))) place s like known)
-      (more (adds-counted ks (front b) place s like)))
+      from_on ks b (p + place) (added p r s) q
+      ∙ rw (add_assoc p place (size_at b), added-counted (front b) (judged (front b) (recomputed c (front b))) place s like known)
+      (more (adds_counted ks (front b) place s like)))
 
 module _ (ks : List Sm4Cipher) (b : List ℕ) where
-  same-bytes : (a : List ℕ) → Stands a → take (sizeAt a) (a ++ b) ≡ take (sizeAt a) a
-  same-bytes a s = take-append-le (sizeAt a) a b (size-within a s)
+  same_bytes : (a : List ℕ) → Stands a → take (size_at a) (a ++ b) ≡ take (size_at a) a
+  same_bytes a s = take-append-le (size_at a) a b (size-within a s)
 
   -- a record that stands whole is replayed the same, whatever is behind it
-  pub one-appended : (a : List ℕ) (place : ℕ) (r : Report) → Stands a → replayOne ks (a ++ b) place r ≡ replayOne ks a place r
-  unfolding replayOne
-  one-appended a place r s =
-      let h = same-bytes a s in
-      rw (starts-in a (a ++ b) s h, front-in a (a ++ b) s h, starts a s)
+  pub one_appended : (a : List ℕ) (place : ℕ) (r : Report) → Stands a → replay_one ks (a ++ b) place r ≡ replay_one ks a place r
+  unfolding replay_one
+  one_appended a place r s =
+      let h = same_bytes a s in
+      rw (starts_in a (a ++ b) s h, front_in a (a ++ b) s h, starts a s)
 
   -- a journal can be replayed a part at a time
-  first-on : (a : List ℕ) (place : ℕ) (r : Report) → Passes ks a
-      → replayFrom ks (a ++ b) place r ≡ replayFrom ks (drop (sizeAt a) a ++ b) (place + sizeAt a) (countedUnder ks (front a) place r)
-  first-on a place r p =
-      let s = stands a (p .0) in
-      let h = same-bytes a s in
-      let f = front-in a (a ++ b) s h in
-      from-on ks (a ++ b) place r (starts-in a (a ++ b) s h, rw f (p .1), rw f (p .2))
-      ∙ rw (f, size-in a (a ++ b) s h, drop-append-le (sizeAt a) a b (size-within a s))
+  first_on : (a : List ℕ) (place : ℕ) (r : Report) → Passes ks a
+      → replay_from ks (a ++ b) place r ≡ replay_from ks (drop (size_at a) a ++ b) (place + size_at a) (counted_under ks (front a) place r)
+  first_on a place r p =
+      let s = stands a p.0 in
+      let h = same_bytes a s in
+      let f = front_in a (a ++ b) s h in
+      from_on ks (a ++ b) place r (starts_in a (a ++ b) s h, rw f p.1, rw f p.2)
+      ∙ rw (f, size_in a (a ++ b) s h, drop-append-le (size_at a) a b (size-within a s))
 
   -- a turn: the record was measured and replayed; what is to come is written as the borrow checker has it
-  pub turn-followed : (a : List ℕ) (place : ℕ) (r : Report) → 0 < length a → numberOfEnd (replayOne ks a place r .ended) ≡ 0
-      → (n : ℕ) (one : Replayed) → n ≡ sizeAt a → one ≡ replayOne ks a place r
-      → replayFrom ks (tailed n a ++ b) (place + n) (one .report) ≡ replayFrom ks (a ++ b) place r
-  turn-followed a place r some z n one size replayed =
+  pub turn_followed : (a : List ℕ) (place : ℕ) (r : Report) → 0 < length a → number_of_end (replay_one ks a place r).ended ≡ 0
+      → (n : ℕ) (one : Replayed) → n ≡ size_at a → one ≡ replay_one ks a place r
+      → replay_from ks (tailed n a ++ b) (place + n) one.report ≡ replay_from ks (a ++ b) place r
+  turn_followed a place r some z n one size replayed =
       let p = passed ks a place r z in
-      rw (tail-is a n, size, replayed, ← counts ks a place r p) (sym (first-on a place r p))
+      rw (tail_is a n, size, replayed, ← counts ks a place r p) (sym (first_on a place r p))
 
   -- a journal that is replayed to its end leaves its report to what is behind it
-  goes-on : (a : List ℕ) (place : ℕ) (r : Report) → numberOfEnd (replayFrom ks a place r .ended) ≡ 0
-      → replayFrom ks (a ++ b) place r ≡ replayFrom ks b (place + length a) (replayFrom ks a place r .report)
-  goes-on =
-      by-replay ks
-      (λ a place r x. numberOfEnd (x .ended) ≡ 0 → replayFrom ks (a ++ b) place r ≡ replayFrom ks b (place + length a) (x .report))
-      (λ a place r h w. let none : a ≡ [] = drop-of-length-le a {i = 0} (omega arith) in rw (none, add-zero place))
-      (λ a place r h e w z. absurd (refuses ks a place r e w .1 z))
+  goes_on_lem : (a : List ℕ) (place : ℕ) (r : Report) → number_of_end (replay_from ks a place r).ended ≡ 0
+      → replay_from ks (a ++ b) place r ≡ replay_from ks b (place + length a) (replay_from ks a place r).report
+  goes_on_lem =
+      by_replay ks
+      (λ a place r x. number_of_end x.ended ≡ 0 → replay_from ks (a ++ b) place r ≡ replay_from ks b (place + length a) x.report)
+      (λ a place r h w. let none : a ≡ [] = drop_of_length-le a {i = 0} (omega arith) in rw (none, add-zero place))
+      (λ a place r h e w z. absurd ((refuses ks a place r e w).1 z))
       (λ a place r x p more w.
-      let e : place + sizeAt a + length (drop (sizeAt a) a) ≡ place + length a =
-      omega (arith, size-within a (stands a (p .0)), length-drop (sizeAt a) a) in
-      first-on a place r p ∙ more w ∙ rw e)
+      let e : place + size_at a + length (drop (size_at a) a) ≡ place + length a =
+      omega (arith, size-within a (stands a p.0), length-drop (size_at a) a) in
+      first_on a place r p ∙ more w ∙ rw e)
 
-module _ (k : Keys) (a b : List ℕ) (whole : numberOfEnd (replay k a .ended) ≡ 0) where
+module _ (k : Keys) (a b : List ℕ) (whole : number_of_end (replay k a).ended ≡ 0) where
   -- where it ends with 0 the keys are good
-  good : badKeys k ≡ false
+  good : bad_keys k ≡ false
   unfolding replay
-  good = by-test (badKeys k) (λ e. absurd (omega (arith, rw e at whole))) (λ e. e)
+  good = by_test (bad_keys k) (λ e. absurd (omega (arith, rw e at whole))) (λ e. e)
 
-  pub joined : replay k (a ++ b) ≡ behindReport (length a) (replay k a .report) (replay k b)
+  pub joined : replay k (a ++ b) ≡ behind_report (length a) (replay k a).report (replay k b)
   joined =
-      let r = replay k a .report in
-      let adds = replay-adds-up k a in
+      let r = (replay k a).report in
+      let adds = replay_adds_up k a in
       let e : 0 + length a ≡ length a + 0 = omega arith in
-      from-start k (a ++ b) good ∙ goes-on (keysIn k) b a 0 nothing (rw (from-start k a good) at whole)
-      ∙ rw (← from-start k a good, e, from-start k b good)
-      (ap {B = Replayed} (λ (s : Report). replayFrom (keysIn k) b (length a + 0) s) (sym (added-none (length a) r adds))
-      ∙ from-added (length a) r adds (keysIn k) b 0 nothing adds-nothing)
+      from_start k (a ++ b) good ∙ goes_on_lem (keys_in k) b a 0 nothing (rw (from_start k a good) at whole)
+      ∙ rw (← from_start k a good, e, from_start k b good)
+      (ap {B = Replayed} (λ (s : Report). replay_from (keys_in k) b (length a + 0) s) (sym (added_none (length a) r adds))
+      ∙ from_added (length a) r adds (keys_in k) b 0 nothing adds_nothing)

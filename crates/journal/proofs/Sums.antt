@@ -1,54 +1,54 @@
 -- Calls by answer, and calls by mode, sum to the records; a first difference is one of them.
-use Rattle·journal·proofs.proofs.Names.{AddsUp, Bool, Difference, Entry, Keys, List, OfRecords, Report, Sm4Cipher, [], _+_, _<_, _∙_, _∷_}
-use Rattle·journal·proofs.proofs.Names.{_≡_, ap, arith, by-test, counted, countedUnder, differs, false, firstOf, getD, keyOf, length}
-use Rattle·journal·proofs.proofs.Names.{length-set, modePlace, nothing, oneMore, recomputed, refl, replay, set, suc, total, true, zero, ℕ}
-use Rattle·journal·proofs.proofs.Cases.{clash}
-use Rattle·journal·proofs.proofs.Lent.{recomputed-known}
-use Rattle·journal·proofs.proofs.Counting.{mode-below-6}
-use Rattle·journal·proofs.proofs.Replaying.{every-report}
+use Rattle.journal.proofs.Names.{AddsUp, Bool, Difference, Entry, Keys, List, OfRecords, Report, Sm4Cipher, [], ◌+◌, ◌<◌, ◌∙◌, ◌∷◌}
+use Rattle.journal.proofs.Names.{◌≡◌, ap, arith, by_test, counted, counted_under, differs, false, first_of, get_or, key_of, length}
+use Rattle.journal.proofs.Names.{length-set, mode_place, nothing, one_more, recomputed, refl, replay, set, suc, total, true, zero, ℕ}
+use Rattle.journal.proofs.Cases.{clash}
+use Rattle.journal.proofs.Lent.{recomputed-known}
+use Rattle.journal.proofs.Counting.{mode-below_6}
+use Rattle.journal.proofs.Replaying.{every_report}
 
-total-set : (l : List ℕ) (i v : ℕ) → i < length l → total (set l i v) + getD l i 0 ≡ total l + v
+total-set : (l : List ℕ) (i v : ℕ) → i < length l → total (set l i v) + get_or l i 0 ≡ total l + v
 unfolding total
 total-set [] i v h = absurd (omega arith)
 total-set (x ∷ l) zero v h = omega arith
 total-set (x ∷ l) (suc i) v h = omega (arith, total-set l i v (omega arith))
 
-total-one-more : (l : List ℕ) (i : ℕ) → i < length l → total (oneMore i l) ≡ total l + 1
-total-one-more l i h = omega (arith, total-set l i (getD l i 0 + 1) h)
+total-one_more : (l : List ℕ) (i : ℕ) → i < length l → total (one_more i l) ≡ total l + 1
+total-one_more l i h = omega (arith, total-set l i (get_or l i 0 + 1) h)
 
-pub adds-nothing : AddsUp nothing
+pub adds_nothing : AddsUp nothing
 unfolding total
-adds-nothing = record { modes = refl; answers = refl; byMode = refl; byAnswer = refl }
+adds_nothing = record { modes = refl; answers = refl; by_mode = refl; by_answer = refl }
 
-pub adds-counted : (ks : List Sm4Cipher) (e : Entry) (place : ℕ) (r : Report) → AddsUp r → AddsUp (countedUnder ks e place r)
+pub adds_counted : (ks : List Sm4Cipher) (e : Entry) (place : ℕ) (r : Report) → AddsUp r → AddsUp (counted_under ks e place r)
 unfolding counted
-adds-counted ks e place r a =
-    let x = recomputed (keyOf (e .key) ks) e in
-    let m = mode-below-6 (e .mode) in
-    let n = recomputed-known (keyOf (e .key) ks) e in
+adds_counted ks e place r a =
+    let x = recomputed (key_of e.key ks) e in
+    let m = mode-below_6 e.mode in
+    let n = recomputed-known (key_of e.key ks) e in
     record {
-      modes = length-set (r .«by_mode») _ _ ∙ a .modes;
-      answers = length-set (r .«by_answer») _ _ ∙ a .answers;
-      byMode = total-one-more (r .«by_mode») (modePlace (e .mode)) (omega arith) ∙ ap (λ (k : ℕ). k + 1) (a .byMode);
-      byAnswer = total-one-more (r .«by_answer») (x .head .number) (omega arith) ∙ ap (λ (k : ℕ). k + 1) (a .byAnswer);
+      modes = length-set r.by_mode _ _ ∙ a.modes;
+      answers = length-set r.by_answer _ _ ∙ a.answers;
+      by_mode = total-one_more r.by_mode (mode_place e.mode) (omega arith) ∙ ap (λ (k : ℕ). k + 1) a.by_mode;
+      by_answer = total-one_more r.by_answer x.head.number (omega arith) ∙ ap (λ (k : ℕ). k + 1) a.by_answer;
     }
 
 -- However a replay ends, the calls by answer sum to the records replayed, and so do the calls by mode.
-pub replay-adds-up : (k : Keys) (journal : List ℕ) → AddsUp (replay k journal .report)
-replay-adds-up = every-report AddsUp adds-counted adds-nothing
+pub replay_adds_up : (k : Keys) (journal : List ℕ) → AddsUp (replay k journal).report
+replay_adds_up = every_report AddsUp adds_counted adds_nothing
 
 -- A first difference is one of the records replayed; where there is none, nothing is said of it.
-first-counted : (t : Bool) (n place : ℕ) (d : Difference) → OfRecords n d → OfRecords (n + 1) (firstOf t n place d)
-first-counted t n place d a =
-    by-test (d .found)
-    (λ e. let h = a .inside e in rw e (record { inside = λ z. omega arith; nowhere = λ z. absurd (clash true refl z) }))
+first_counted : (t : Bool) (n place : ℕ) (d : Difference) → OfRecords n d → OfRecords (n + 1) (first_of t n place d)
+first_counted t n place d a =
+    by_test d.found
+    (λ e. let h = a.inside e in rw e (record { inside = λ z. omega arith; nowhere = λ z. absurd (clash true refl z) }))
     (λ e.
-    by-test t (λ f. rw (e, f) (record { inside = λ z. omega arith; nowhere = λ z. absurd (clash true refl z) }))
-    (λ f. rw (e, f) (record { inside = λ z. absurd (clash false z refl); nowhere = λ z. a .nowhere e })))
+    by_test t (λ f. rw (e, f) (record { inside = λ z. omega arith; nowhere = λ z. absurd (clash true refl z) }))
+    (λ f. rw (e, f) (record { inside = λ z. absurd (clash false z refl); nowhere = λ z. a.nowhere e })))
 
-pub first-replayed : (k : Keys) (journal : List ℕ) → OfRecords (replay k journal .report .records) (replay k journal .report .first)
+pub first_replayed : (k : Keys) (journal : List ℕ) → OfRecords (replay k journal).report.records (replay k journal).report.first
 unfolding counted
-first-replayed =
-    every-report (λ r. OfRecords (r .records) (r .first))
-    (λ ks e place r a. first-counted (differs ks e) (r .records) place (r .first) a)
+first_replayed =
+    every_report (λ r. OfRecords r.records r.first)
+    (λ ks e place r a. first_counted (differs ks e) r.records place r.first a)
     (record { inside = λ z. absurd (clash false z refl); nowhere = λ z. (refl, refl) })

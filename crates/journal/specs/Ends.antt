@@ -1,37 +1,32 @@
 -- What a journal has to hold so that its replay ends in one way and no other: the records that were replayed, one behind the other, and
 -- what stands behind them.
-use Prim.Native.Nat.{ℕ, _+_, _<_}
-use mathlib.Core.Path.{_≡_}
-use mathlib.Core.Bool.{Bool, true, false, cond}
-use mathlib.Core.List.{List, [], _∷_, _++_}
-use lib.Dec.{eqb}
-use lib.ListN.{length, getD}
-use Rattle·cipher_mode.specs.Outcome.{Outcome}
-use Rattle·cipher_mode.specs.declared.Sm4Cipher.{Sm4Cipher}
-use Rattle·journal·specs.specs.Format.{Entry, Proper, written, stored, tooLong}
-use Rattle·journal·specs.specs.KeyList.{hasNumber, keyOf}
-use Rattle·journal·specs.specs.Recomputed.{recomputed, judged}
-use Rattle·journal·specs.specs.Reports.{modePlace}
-use Rattle·journal·specs.specs.Replay.{countedUnder}
-use Rattle·journal·specs.specs.declared.report.Report.{Report}
-use Rattle·journal·specs.specs.declared.Ended.{Ended}
-use Rattle·journal·specs.specs.declared.Ended.the-variants.{Done, BadRecord, TooLong, UnknownKey, BadKeys}
-use Rattle·journal·specs.specs.declared.Replayed.{Replayed}
+use Rattle.std.specs.Prelude.{ℕ, ◌+◌, ◌<◌, ◌≡◌, Bool, true, false, cond, List, [], ◌∷◌, ◌++◌, eqb, length, get_or}
+use Rattle.cipher_mode.specs.Outcome.{Outcome}
+use Rattle.cipher_mode.specs.declared.Sm4Cipher.{Sm4Cipher}
+use Rattle.journal.specs.Format.{Entry, Proper, written, stored, too_long}
+use Rattle.journal.specs.KeyList.{has_number, key_of}
+use Rattle.journal.specs.Recomputed.{recomputed, judged}
+use Rattle.journal.specs.Reports.{mode_place}
+use Rattle.journal.specs.Replay.{counted_under}
+use Rattle.journal.specs.declared.report.Report.{Report}
+use Rattle.journal.specs.declared.Ended.{Ended}
+use Rattle.journal.specs.declared.Ended.TheVariants.{Done, BadRecord, TooLong, UnknownKey, BadKeys}
+use Rattle.journal.specs.declared.Replayed.{Replayed}
 
 -- a call that can be replayed: its parts within the limits, and its key among those that are lent
 pub record Replayable (ks : List Sm4Cipher) (e : Entry) : Type 0 where
   pub proper : Proper e
-  pub short : tooLong e ≡ false
-  pub known : hasNumber (e .key) ks ≡ true
+  pub short : too_long e ≡ false
+  pub known : has_number e.key ks ≡ true
 
 abbrev pub AllReplayable : List Sm4Cipher → List Entry → Type 0
 AllReplayable ks [] = Unit {0}
 AllReplayable ks (e ∷ es) = Replayable ks e × AllReplayable ks es
 
 -- the report r with calls counted that stand one behind the other, the first of them at a place
-unfoldable pub countedAll : List Sm4Cipher → List Entry → ℕ → Report → Report
-countedAll ks [] place r = r
-countedAll ks (e ∷ es) place r = countedAll ks es (place + length (written e)) (countedUnder ks e place r)
+unfoldable pub counted_all : List Sm4Cipher → List Entry → ℕ → Report → Report
+counted_all ks [] place r = r
+counted_all ks (e ∷ es) place r = counted_all ks es (place + length (written e)) (counted_under ks e place r)
 
 -- the call e stands written at the front of b
 pub record Begins (b : List ℕ) (e : Entry) : Type 0 where
@@ -49,17 +44,17 @@ pub record BeginsWith (P : Entry → Type 0) (b : List ℕ) : Type 0 where
 abbrev pub Why : List Sm4Cipher → List ℕ → Ended → Type 0
 Why ks b Done = length b ≡ 0
 Why ks b BadRecord = (0 < length b) × ((e : Entry) → Begins b e → ⊥)
-Why ks b TooLong = BeginsWith (λ e. tooLong e ≡ true) b
-Why ks b UnknownKey = BeginsWith (λ e. (tooLong e ≡ false) × (hasNumber (e .key) ks ≡ false)) b
+Why ks b TooLong = BeginsWith (λ e. too_long e ≡ true) b
+Why ks b UnknownKey = BeginsWith (λ e. (too_long e ≡ false) × (has_number e.key ks ≡ false)) b
 Why ks b BadKeys = ⊥
 
 -- the place that is told: that of the record that was refused, 0 where none was
-abbrev pub toldPlace : Ended → ℕ → ℕ
-toldPlace Done place = 0
-toldPlace BadRecord place = place
-toldPlace TooLong place = place
-toldPlace UnknownKey place = place
-toldPlace BadKeys place = 0
+abbrev pub told_place : Ended → ℕ → ℕ
+told_place Done place = 0
+told_place BadRecord place = place
+told_place TooLong place = place
+told_place UnknownKey place = place
+told_place BadKeys place = 0
 
 -- the bytes b, which stand at a place of the journal, with the report r of what is before them, are replayed to the end x
 pub record Ends (ks : List Sm4Cipher) (b : List ℕ) (from : ℕ) (r : Report) (x : Replayed) : Type 0 where
@@ -67,35 +62,35 @@ pub record Ends (ks : List Sm4Cipher) (b : List ℕ) (from : ℕ) (r : Report) (
   pub rest : List ℕ
   pub split : b ≡ stored calls ++ rest
   pub replayable : AllReplayable ks calls
-  pub why : Why ks rest (x .ended)
-  pub place : x .place ≡ toldPlace (x .ended) (from + length (stored calls))
-  pub report : x .report ≡ countedAll ks calls from r
+  pub why : Why ks rest x.ended
+  pub place : x.place ≡ told_place x.ended (from + length (stored calls))
+  pub report : x.report ≡ counted_all ks calls from r
 
 -- what a call answers now
-abbrev pub answerNow : List Sm4Cipher → Entry → Outcome
-answerNow ks e = recomputed (keyOf (e .key) ks) e
+abbrev pub answer_now : List Sm4Cipher → Entry → Outcome
+answer_now ks e = recomputed (key_of e.key ks) e
 
 -- whether that is otherwise than was recorded
 abbrev pub differs : List Sm4Cipher → Entry → Bool
-differs ks e = judged e (answerNow ks e) .differs
+differs ks e = (judged e (answer_now ks e)).differs
 
 abbrev pub NoneDiffers : List Sm4Cipher → List Entry → Type 0
 NoneDiffers ks [] = Unit {0}
 NoneDiffers ks (e ∷ es) = (differs ks e ≡ false) × NoneDiffers ks es
 
 -- how many calls pass a test, and what a number of each sums to
-unfoldable pub countIf : (Entry → Bool) → List Entry → ℕ
-countIf test [] = 0
-countIf test (e ∷ es) = cond (test e) 1 0 + countIf test es
+unfoldable pub count_if : (Entry → Bool) → List Entry → ℕ
+count_if test [] = 0
+count_if test (e ∷ es) = cond (test e) 1 0 + count_if test es
 
-unfoldable pub sumOf : (Entry → ℕ) → List Entry → ℕ
-sumOf f [] = 0
-sumOf f (e ∷ es) = f e + sumOf f es
+unfoldable pub sum_of : (Entry → ℕ) → List Entry → ℕ
+sum_of f [] = 0
+sum_of f (e ∷ es) = f e + sum_of f es
 
 -- r has the exact totals of the calls: by mode and by the number that they answer now, their data's bytes, and the bytes that they give now
 pub record Totals (ks : List Sm4Cipher) (es : List Entry) (r : Report) : Type 0 where
-  pub records : r .records ≡ length es
-  pub byMode : (i : ℕ) → getD (r .«by_mode») i 0 ≡ countIf (λ e. eqb (modePlace (e .mode)) i) es
-  pub byAnswer : (i : ℕ) → getD (r .«by_answer») i 0 ≡ countIf (λ e. eqb (answerNow ks e .head .number) i) es
-  pub bytesIn : r .«bytes_in» ≡ sumOf (λ e. length (e .«data»)) es
-  pub bytesOut : r .«bytes_out» ≡ sumOf (λ e. answerNow ks e .head .size) es
+  pub records : r.records ≡ length es
+  pub by_mode : (i : ℕ) → get_or r.by_mode i 0 ≡ count_if (λ e. eqb (mode_place e.mode) i) es
+  pub by_answer : (i : ℕ) → get_or r.by_answer i 0 ≡ count_if (λ e. eqb (answer_now ks e).head.number i) es
+  pub bytes_in : r.bytes_in ≡ sum_of (λ e. length e.«data») es
+  pub bytes_out : r.bytes_out ≡ sum_of (λ e. (answer_now ks e).head.size) es

@@ -1,12 +1,9 @@
 -- The reports of two journals added, as the report of the two joined: the second's records come behind the first's.
-use Prim.Native.Nat.{ℕ, _+_}
-use mathlib.Core.Bool.{true, cond}
-use mathlib.Core.List.{List, [], _∷_}
-use lib.Dec.{eqb}
-use Rattle·journal·specs.specs.Replay.{numberOfEnd}
-use Rattle·journal·specs.specs.declared.report.Difference.{Difference}
-use Rattle·journal·specs.specs.declared.report.Report.{Report}
-use Rattle·journal·specs.specs.declared.Replayed.{Replayed}
+use Rattle.std.specs.Prelude.{ℕ, ◌+◌, true, cond, List, [], ◌∷◌, eqb}
+use Rattle.journal.specs.Replay.{number_of_end}
+use Rattle.journal.specs.declared.report.Difference.{Difference}
+use Rattle.journal.specs.declared.report.Report.{Report}
+use Rattle.journal.specs.declared.Replayed.{Replayed}
 
 -- counts, place by place
 unfoldable pub sums : List ℕ → List ℕ → List ℕ
@@ -17,26 +14,26 @@ sums (x ∷ a) (y ∷ b) = (x + y) ∷ sums a b
 -- the first's difference, or the second's, behind so many records and bytes
 abbrev pub earlier : Difference → ℕ → ℕ → Difference → Difference
 earlier d records size e =
-    cond (d .found) d
-    (cond (e .found) (record { found = true; index = records + e .index; place = size + e .place }) d)
+    cond d.found d
+    (cond e.found (record { found = true; index = records + e.index; place = size + e.place }) d)
 
 -- the report s behind the report r of a journal of so many bytes
 unfoldable pub added : ℕ → Report → Report → Report
 added size r s =
     record {
-      records = r .records + s .records;
-      «by_mode» = sums (r .«by_mode») (s .«by_mode»);
-      «by_answer» = sums (r .«by_answer») (s .«by_answer»);
-      «bytes_in» = r .«bytes_in» + s .«bytes_in»;
-      «bytes_out» = r .«bytes_out» + s .«bytes_out»;
-      first = earlier (r .first) (r .records) size (s .first);
+      records = r.records + s.records;
+      by_mode = sums r.by_mode s.by_mode;
+      by_answer = sums r.by_answer s.by_answer;
+      bytes_in = r.bytes_in + s.bytes_in;
+      bytes_out = r.bytes_out + s.bytes_out;
+      first = earlier r.first r.records size s.first;
     }
 
 -- how the two end, where the first was replayed to its end: as the second does, at a place that is counted from the first's start
-unfoldable pub behindReport : ℕ → Report → Replayed → Replayed
-behindReport size r x =
+unfoldable pub behind_report : ℕ → Report → Replayed → Replayed
+behind_report size r x =
     record {
-      ended = x .ended;
-      place = cond (eqb (numberOfEnd (x .ended)) 0) 0 (size + x .place);
-      report = added size r (x .report);
+      ended = x.ended;
+      place = cond (eqb (number_of_end x.ended) 0) 0 (size + x.place);
+      report = added size r x.report;
     }

@@ -1,42 +1,38 @@
 -- The keys of a replay. A record that is no key is looked at as any other: its number is 0, and every call on it answers as its
 -- set-up did.
-use Prim.Native.Nat.{ℕ, _+_}
-use mathlib.Core.Bool.{Bool, false, _||_, cond}
-use mathlib.Core.List.{List, [], _∷_}
-use lib.Dec.{ltb, eqb}
-use lib.ListN.{length, getD, take}
-use Rattle·cipher_mode.specs.declared.KeyAnswer.the-variants.{ErrorBlockSize}
-use Rattle·cipher_mode.specs.declared.Sm4Cipher.{Sm4Cipher}
-use Rattle·cipher_mode.specs.Key.{noCipher, keyNumber}
-use Rattle·journal·specs.specs.declared.keys.Keys.{Keys}
+use Rattle.std.specs.Prelude.{ℕ, ◌+◌, Bool, false, ◌||◌, cond, List, [], ◌∷◌, ltb, eqb, length, get_or, take}
+use Rattle.cipher_mode.specs.declared.KeyAnswer.TheVariants.{ErrorBlockSize}
+use Rattle.cipher_mode.specs.declared.Sm4Cipher.{Sm4Cipher}
+use Rattle.cipher_mode.specs.Key.{no_cipher, key_number}
+use Rattle.journal.specs.declared.keys.Keys.{Keys}
 
 -- the keys that are lent
-abbrev pub keysIn : Keys → List Sm4Cipher
-keysIn k = take (k .count) (k .keys)
+abbrev pub keys_in : Keys → List Sm4Cipher
+keys_in k = take k.count k.keys
 
 -- which of them has a number, counted from 0; as many as there are where none has
-unfoldable pub placeOf : ℕ → List Sm4Cipher → ℕ
-placeOf n [] = 0
-placeOf n (c ∷ cs) = cond (eqb (keyNumber c) n) 0 (1 + placeOf n cs)
+unfoldable pub place_of : ℕ → List Sm4Cipher → ℕ
+place_of n [] = 0
+place_of n (c ∷ cs) = cond (eqb (key_number c) n) 0 (1 + place_of n cs)
 
-abbrev pub hasNumber : ℕ → List Sm4Cipher → Bool
-hasNumber n cs = ltb (placeOf n cs) (length cs)
+abbrev pub has_number : ℕ → List Sm4Cipher → Bool
+has_number n cs = ltb (place_of n cs) (length cs)
 
-abbrev pub keyAt : List Sm4Cipher → ℕ → Sm4Cipher
-keyAt cs i = getD cs i (noCipher ErrorBlockSize)
+abbrev pub key_at : List Sm4Cipher → ℕ → Sm4Cipher
+key_at cs i = get_or cs i (no_cipher ErrorBlockSize)
 
 -- the key that has a number
-abbrev pub keyOf : ℕ → List Sm4Cipher → Sm4Cipher
-keyOf n cs = keyAt cs (placeOf n cs)
+abbrev pub key_of : ℕ → List Sm4Cipher → Sm4Cipher
+key_of n cs = key_at cs (place_of n cs)
 
-unfoldable pub anyRetired : List Sm4Cipher → Bool
-anyRetired [] = false
-anyRetired (c ∷ cs) = c .retired || anyRetired cs
+unfoldable pub any_retired : List Sm4Cipher → Bool
+any_retired [] = false
+any_retired (c ∷ cs) = c.retired || any_retired cs
 
-unfoldable pub numberTwice : List Sm4Cipher → Bool
-numberTwice [] = false
-numberTwice (c ∷ cs) = hasNumber (keyNumber c) cs || numberTwice cs
+unfoldable pub number_twice : List Sm4Cipher → Bool
+number_twice [] = false
+number_twice (c ∷ cs) = has_number (key_number c) cs || number_twice cs
 
 -- over eight keys, a retired one, or a number twice
-unfoldable pub badKeys : Keys → Bool
-badKeys k = ltb 8 (k .count) || (anyRetired (keysIn k) || numberTwice (keysIn k))
+unfoldable pub bad_keys : Keys → Bool
+bad_keys k = ltb 8 k.count || (any_retired (keys_in k) || number_twice (keys_in k))

@@ -1,59 +1,54 @@
 -- The report of a replay, and what one more record makes of it.
-use Prim.Native.Nat.{ℕ, suc, _+_, _≤_, _<_}
-use mathlib.Core.Path.{_≡_}
-use mathlib.Core.Bool.{Bool, true, false, cond}
-use mathlib.Core.List.{List, [], _∷_}
-use lib.Dec.{ltb}
-use lib.ListN.{length, getD, set, replicate}
-use Rattle·block.specs.Below.{Below}
-use Rattle·journal·specs.specs.Format.{Entry}
-use Rattle·journal·specs.specs.declared.again.Recomputed.{Recomputed}
-use Rattle·journal·specs.specs.declared.report.Difference.{Difference}
-use Rattle·journal·specs.specs.declared.report.Report.{Report}
+use Rattle.std.specs.Prelude.{ℕ, suc, ◌+◌, ◌≤◌, ◌<◌, ◌≡◌, Bool, true, false, cond, List, [], ◌∷◌, ltb, length, get_or, set, replicate}
+use Rattle.block.specs.Below.{Below}
+use Rattle.journal.specs.Format.{Entry}
+use Rattle.journal.specs.declared.again.Recomputed.{Recomputed}
+use Rattle.journal.specs.declared.report.Difference.{Difference}
+use Rattle.journal.specs.declared.report.Report.{Report}
 
 -- before the first record
 abbrev pub nothing : Report
 nothing =
     record {
       records = 0;
-      «by_mode» = replicate 6 0;
-      «by_answer» = replicate 32 0;
-      «bytes_in» = 0;
-      «bytes_out» = 0;
+      by_mode = replicate 6 0;
+      by_answer = replicate 32 0;
+      bytes_in = 0;
+      bytes_out = 0;
       first = record { found = false; index = 0; place = 0 };
     }
 
 -- one more at place i
-abbrev pub oneMore : ℕ → List ℕ → List ℕ
-oneMore i counts = set counts i (getD counts i 0 + 1)
+abbrev pub one_more : ℕ → List ℕ → List ℕ
+one_more i counts = set counts i (get_or counts i 0 + 1)
 
 -- the modes above 4 are counted together
-abbrev pub modePlace : ℕ → ℕ
-modePlace mode = cond (ltb 4 mode) 5 mode
+abbrev pub mode_place : ℕ → ℕ
+mode_place mode = cond (ltb 4 mode) 5 mode
 
 -- the first difference, where the record at a place, with so many before it, differs or does not
-abbrev pub firstOf : Bool → ℕ → ℕ → Difference → Difference
-firstOf differs records place d = cond (d .found) d (cond differs (record { found = true; index = records; place = place }) d)
+abbrev pub first_of : Bool → ℕ → ℕ → Difference → Difference
+first_of differs records place d = cond d.found d (cond differs (record { found = true; index = records; place = place }) d)
 
 -- one more record at a place: the entry e, which was judged x
 unfoldable pub counted : Entry → Recomputed → ℕ → Report → Report
 counted e x place r =
     record {
-      records = r .records + 1;
-      «by_mode» = oneMore (modePlace (e .mode)) (r .«by_mode»);
-      «by_answer» = oneMore (x .number) (r .«by_answer»);
-      «bytes_in» = r .«bytes_in» + length (e .«data»);
-      «bytes_out» = r .«bytes_out» + x .length;
-      first = firstOf (x .differs) (r .records) place (r .first);
+      records = r.records + 1;
+      by_mode = one_more (mode_place e.mode) r.by_mode;
+      by_answer = one_more x.number r.by_answer;
+      bytes_in = r.bytes_in + length e.«data»;
+      bytes_out = r.bytes_out + x.length;
+      first = first_of x.differs r.records place r.first;
     }
 
 -- no count is above n
 pub record Within (n : ℕ) (r : Report) : Type 0 where
-  pub records : r .records ≤ n
-  pub byMode : Below (suc n) (r .«by_mode»)
-  pub byAnswer : Below (suc n) (r .«by_answer»)
-  pub bytesIn : r .«bytes_in» ≤ n
-  pub bytesOut : r .«bytes_out» ≤ n
+  pub records : r.records ≤ n
+  pub by_mode : Below (suc n) r.by_mode
+  pub by_answer : Below (suc n) r.by_answer
+  pub bytes_in : r.bytes_in ≤ n
+  pub bytes_out : r.bytes_out ≤ n
 
 unfoldable pub total : List ℕ → ℕ
 total [] = 0
@@ -61,12 +56,12 @@ total (n ∷ ns) = n + total ns
 
 -- the calls by mode, and those by answer, sum to the records
 pub record AddsUp (r : Report) : Type 0 where
-  pub modes : length (r .«by_mode») ≡ 6
-  pub answers : length (r .«by_answer») ≡ 32
-  pub byMode : total (r .«by_mode») ≡ r .records
-  pub byAnswer : total (r .«by_answer») ≡ r .records
+  pub modes : length r.by_mode ≡ 6
+  pub answers : length r.by_answer ≡ 32
+  pub by_mode : total r.by_mode ≡ r.records
+  pub by_answer : total r.by_answer ≡ r.records
 
 -- a first difference, of so many records: it is one of them, or there is none and nothing is said of it
 pub record OfRecords (n : ℕ) (d : Difference) : Type 0 where
-  pub inside : d .found ≡ true → d .index < n
-  pub nowhere : d .found ≡ false → (d .index ≡ 0) × (d .place ≡ 0)
+  pub inside : d.found ≡ true → d.index < n
+  pub nowhere : d.found ≡ false → (d.index ≡ 0) × (d.place ≡ 0)

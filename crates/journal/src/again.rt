@@ -1,28 +1,25 @@
 // A recorded call, made again.
-ghost use mathlib.Core.Path.{_≡_};
-ghost use mathlib.Core.Bool.{false};
-ghost use Prim.Native.Nat.{_+_, _≤_, _<_};
-ghost use lib.ListN.{length};
-ghost use Rattle·cipher_mode.specs.Answer.{headOf};
-ghost use Rattle·journal·specs.specs.Format.{Stands, front, tooLong};
-ghost use Rattle·journal·specs.specs.Recomputed.{callInto, Answers, recomputed, differsFrom, lentRoom, judged};
+ghost use Rattle.std.specs.Prelude.{◌≡◌, false, ◌+◌, ◌≤◌, ◌<◌, length};
+ghost use Rattle.cipher_mode.specs.Answer.{head_of};
+ghost use Rattle.journal.specs.Format.{Stands, front, too_long};
+ghost use Rattle.journal.specs.Recomputed.{call_into, Answers, recomputed, differs_from, lent_room, judged};
+
 use crate::records;
-use cipher_mode::Sm4Cipher;
-use cipher_mode::Sm4CipherMode;
-use cipher_mode::answer;
-use cipher_mode::answer::Answer;
-use cipher_mode::answer::Ending;
+use cipher_mode::answer::{Answer, Ending};
+use cipher_mode::{Sm4Cipher, Sm4CipherMode, answer};
 
 // The number of a mode that is none.
 const BAD_MODE: u32 = 7;
 
 // What a call answered.
+#[derive(Clone, Copy)]
 pub(crate) struct Answered {
     pub number: u32,
     pub length: usize,
 }
 
 // What it answered, and whether that is something else than was recorded.
+#[derive(Drop)]
 pub(crate) struct Recomputed {
     pub number: u32,
     pub length: usize,
@@ -30,7 +27,7 @@ pub(crate) struct Recomputed {
 }
 
 fn told(answer: Answer) -> Answered
-    ensures { λ r. ⌜ r ≡ record { number = headOf answer .number; length = headOf answer .size } ⌝ }
+    ensures { result ≡ record { number = (head_of answer).number; length = (head_of answer).size } }
 {
     let ending = answer.ending;
     match ending {
@@ -46,8 +43,8 @@ fn told(answer: Answer) -> Answered
 }
 
 fn call_into(cipher: Sm4Cipher, s: &[u8], out: &mut [u8]) -> Answered
-    requires { ⌜ Stands (now s) ⌝ }
-    ensures { λ r. ⌜ Answers r (now (out .exit)) (callInto cipher (front (now (s .entry))) (now (out .entry))) ⌝ }
+    requires { Stands s.now }
+    ensures { Answers result out.new (call_into cipher (front s.now) out.old) }
 {
     let number = records::mode(s);
     if number > 4 {
@@ -68,9 +65,9 @@ fn call_into(cipher: Sm4Cipher, s: &[u8], out: &mut [u8]) -> Answered
     ))
 }
 
-fn differs(s: &[u8], answered: Answered, result: &[u8]) -> bool
-    requires { ⌜ Stands (now s) ⌝ }
-    ensures { λ r. ⌜ r ≡ differsFrom (front (now (s .entry))) (answered .number) (answered .length) (now (result .entry)) ⌝ }
+fn differs(s: &[u8], answered: Answered, res: &[u8]) -> bool
+    requires { Stands s.now }
+    ensures { result ≡ differs_from (front s.now) answered.number answered.length res.now }
 {
     if records::number(s) as u32 != answered.number {
         return true;
@@ -79,13 +76,13 @@ fn differs(s: &[u8], answered: Answered, result: &[u8]) -> bool
     if recorded.len() != answered.length {
         return true;
     }
-    !block::alike(recorded, result)
+    !block::alike(recorded, res)
 }
 
 // How much room the call is lent: never more than the longest output, whatever was recorded.
 fn lent_room(s: &[u8]) -> usize
-    requires { ⌜ Stands (now s) ⌝ }
-    ensures { λ r. ⌜ r ≡ lentRoom (front (now (s .entry))) ⌝ }
+    requires { Stands s.now }
+    ensures { result ≡ lent_room (front s.now) }
 {
     let room = records::room(s) as usize;
     if room > records::OUTPUT_LIMIT {
@@ -99,11 +96,11 @@ fn longest_output() -> [u8; records::OUTPUT_LIMIT] {
 }
 
 pub(crate) fn recompute(cipher: Sm4Cipher, s: &[u8]) -> Recomputed
-    requires { ⌜ Stands (now s) ⌝ }
-    requires { ⌜ tooLong (front (now s)) ≡ false ⌝ }
-    ensures { λ r. ⌜ r ≡ judged (front (now (s .entry))) (recomputed cipher (front (now (s .entry)))) ⌝ }
-    ensures { λ r. ⌜ r .number < 27 ⌝ }
-    ensures { λ r. ⌜ r .length ≤ 16 + length (front (now (s .entry)) .«data») ⌝ }
+    requires stands { Stands s.now }
+    requires s_value { too_long (front s.now) ≡ false }
+    ensures value { result ≡ judged (front s.now) (recomputed cipher (front s.now)) }
+    ensures number_bound { result.number < 27 }
+    ensures length_bound { result.length ≤ 16 + length (front s.now).«data» }
 {
     let mut out = longest_output();
     let n = lent_room(s);

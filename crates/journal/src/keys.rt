@@ -1,17 +1,15 @@
 // The keys of a replay.
-ghost use mathlib.Core.Path.{_≡_};
-ghost use Prim.Native.Nat.{_+_, _≤_, _<_};
-ghost use mathlib.Core.List.{_∷_};
-ghost use lib.Dec.{ltb};
-ghost use lib.ListN.{drop};
-ghost use Rattle·cipher_mode.specs.Key.{keyNumber};
-ghost use Rattle·journal·specs.specs.KeyList.{keysIn, placeOf, hasNumber, keyAt, badKeys};
+ghost use Rattle.std.specs.Prelude.{◌≡◌, ◌+◌, ◌≤◌, ◌<◌, ◌∷◌, ltb, drop};
+ghost use Rattle.cipher_mode.specs.Key.{key_number};
+ghost use Rattle.journal.specs.KeyList.{keys_in, place_of, has_number, key_at, bad_keys};
+
 use cipher_mode::Sm4Cipher;
 
 // The most keys of a replay.
 const MOST: usize = 8;
 
 // The first `count` records; the others are not looked at.
+#[derive(Clone, Copy)]
 pub struct Keys {
     pub count: usize,
     pub keys: [Sm4Cipher; MOST],
@@ -19,17 +17,17 @@ pub struct Keys {
 
 // The number that the answers of calls on a record repeat: 0 where no key stands.
 fn number_of(key: Sm4Cipher) -> u16
-    ensures { λ r. ⌜ r ≡ keyNumber key ⌝ }
+    ensures { result ≡ key_number key }
 {
     let answer = key.answer;
     cipher_mode::number_in(answer, key.number)
 }
 
 pub(crate) fn at(keys: Keys, i: usize) -> Sm4Cipher
-    requires { ⌜ i < keys .count ⌝ }
-    requires { ⌜ keys .count ≤ 8 ⌝ }
-    ensures { λ r. ⌜ r ≡ keyAt (keysIn keys) i ⌝ }
-    ensures { λ r. ⌜ drop i (keysIn keys) ≡ r ∷ drop (i + 1) (keysIn keys) ⌝ }
+    requires i_lt_count { i < keys.count }
+    requires count_bound { keys.count ≤ 8 }
+    ensures value { result ≡ key_at (keys_in keys) i }
+    ensures keys_value { drop i (keys_in keys) ≡ result ∷ drop (i + 1) (keys_in keys) }
 {
     let all = keys.keys;
     all[i]
@@ -37,10 +35,10 @@ pub(crate) fn at(keys: Keys, i: usize) -> Sm4Cipher
 
 // The first place from `from` on whose key has this number; the count of keys where none has.
 fn find_from(keys: Keys, from: usize, number: u16) -> usize
-    requires { ⌜ from ≤ keys .count ⌝ }
-    requires { ⌜ keys .count ≤ 8 ⌝ }
-    ensures { λ r. ⌜ r ≡ from + placeOf number (drop from (keysIn keys)) ⌝ }
-    ensures { λ r. ⌜ ltb r (keys .count) ≡ hasNumber number (drop from (keysIn keys)) ⌝ }
+    requires from_le_count { from ≤ keys.count }
+    requires count_bound { keys.count ≤ 8 }
+    ensures value { result ≡ from + place_of number (drop from (keys_in keys)) }
+    ensures count_value { ltb result keys.count ≡ has_number number (drop from (keys_in keys)) }
 {
     let mut i = from;
     while i < keys.count {
@@ -53,16 +51,16 @@ fn find_from(keys: Keys, from: usize, number: u16) -> usize
 }
 
 pub(crate) fn find(keys: Keys, number: u16) -> usize
-    requires { ⌜ keys .count ≤ 8 ⌝ }
-    ensures { λ r. ⌜ r ≡ placeOf number (keysIn keys) ⌝ }
-    ensures { λ r. ⌜ ltb r (keys .count) ≡ hasNumber number (keysIn keys) ⌝ }
+    requires { keys.count ≤ 8 }
+    ensures value { result ≡ place_of number (keys_in keys) }
+    ensures count_value { ltb result keys.count ≡ has_number number (keys_in keys) }
 {
     find_from(keys, 0, number)
 }
 
 // Over eight keys, a retired one, or a number twice.
 pub fn bad(keys: Keys) -> bool
-    ensures { λ r. ⌜ r ≡ badKeys keys ⌝ }
+    ensures { result ≡ bad_keys keys }
 {
     if keys.count > MOST {
         return true;

@@ -3,23 +3,26 @@
 //
 // A record is measured whole by the lengths that it states before anything else is asked of it: what is cut is 23, however long it says that
 // its parts are. The recorded length of an output is that of the recorded output.
+
+#![tactic(auto)]
+
 mod again;
 pub mod keys;
 pub mod records;
 pub mod report;
 pub mod writer;
 
-ghost use mathlib.Core.Path.{_≡_};
-ghost use Prim.Native.Nat.{_+_, _≤_, _<_, _^_};
-ghost use lib.ListN.{length};
-ghost use Rattle·journal·specs.specs.KeyList.{keysIn};
-ghost use Rattle·journal·specs.specs.Reports.{Within};
-ghost use Rattle·journal·specs.specs.Replay.{numberOfEnd, replayOne, replay};
+ghost use Rattle.std.specs.Prelude.{◌≡◌, ◌+◌, ◌≤◌, ◌<◌, ◌^◌, length};
+ghost use Rattle.journal.specs.KeyList.{keys_in};
+ghost use Rattle.journal.specs.Reports.{Within};
+ghost use Rattle.journal.specs.Replay.{number_of_end, replay_one, replay};
+
 use keys::Keys;
 use report::Report;
 
 // How a replay ended. A bad record is cut, unmarked, or has a bad direction; bad keys are over eight, a retired one or a number
 // twice.
+#[derive(Clone, Copy)]
 pub enum Ended {
     Done,
     BadRecord,
@@ -30,6 +33,7 @@ pub enum Ended {
 
 // How it ended; the place of the first byte of the record that was refused, 0 where none was; and the report of the records
 // before it.
+#[derive(Drop)]
 pub struct Replayed {
     pub ended: Ended,
     pub place: usize,
@@ -38,7 +42,7 @@ pub struct Replayed {
 
 // The number of how a replay ended (W11).
 pub fn number(ended: Ended) -> u32
-    ensures { λ r. ⌜ r ≡ numberOfEnd ended ⌝ }
+    ensures { result ≡ number_of_end ended }
 {
     match ended {
         Ended::Done => 0,
@@ -52,10 +56,10 @@ pub fn number(ended: Ended) -> u32
 // Replays the record at the front of `s`, which stands at `place` of the journal, and adds it to the report of those before it.
 // A journal of any length is replayed so in a part of it at a time; to go on, go on behind `records::measure`.
 pub fn replay_one(keys: Keys, s: &[u8], place: usize, report: Report) -> Replayed
-    requires { ⌜ keys .count ≤ 8 ⌝ }
-    requires { ⌜ Within place report ⌝ }
-    requires { ⌜ place + length (now s) < 2 ^ 64 ⌝ }
-    ensures { λ r. ⌜ r ≡ replayOne (keysIn keys) (now (s .entry)) place report ⌝ }
+    requires count_bound { keys.count ≤ 8 }
+    requires within { Within place report }
+    requires s_bound { place + length s.now < 2 ^ 64 }
+    ensures { result ≡ replay_one (keys_in keys) s.now place report }
 {
     if records::measure(s) == 0 {
         let ended = Ended::BadRecord;
@@ -93,7 +97,7 @@ pub fn replay_one(keys: Keys, s: &[u8], place: usize, report: Report) -> Replaye
 
 // Replays a journal. The first difference is kept, and replay goes on.
 pub fn replay(keys: Keys, journal: &[u8]) -> Replayed
-    ensures { λ r. ⌜ r ≡ replay keys (now (journal .entry)) ⌝ }
+    ensures { result ≡ replay keys journal.now }
 {
     let mut report = report::nothing();
     if keys::bad(keys) {

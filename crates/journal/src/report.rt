@@ -1,13 +1,13 @@
 // The report of a replay, as a running value.
-ghost use mathlib.Core.Path.{_≡_};
-ghost use Prim.Native.Nat.{_+_, _≤_, _<_, _^_};
-ghost use lib.ListN.{length, getD};
-ghost use Rattle·journal·specs.specs.Format.{Stands, front};
-ghost use Rattle·journal·specs.specs.Reports.{nothing, oneMore, modePlace, firstOf, counted, Within};
+ghost use Rattle.std.specs.Prelude.{◌≡◌, ◌+◌, ◌≤◌, ◌<◌, ◌^◌, length, get_or};
+ghost use Rattle.journal.specs.Format.{Stands, front};
+ghost use Rattle.journal.specs.Reports.{nothing, one_more, mode_place, first_of, counted, Within};
+
 use crate::again::Recomputed;
 use crate::records;
 
 // The first record that differs: whether there is one, how many records are before it, and the place of its first byte.
+#[derive(Drop)]
 pub struct Difference {
     pub found: bool,
     pub index: u64,
@@ -16,6 +16,7 @@ pub struct Difference {
 
 // How many records there were; how many in each mode, those of no known mode last; how many with each recomputed number; the
 // bytes of data that went in, of refused calls too, and those that came out.
+#[derive(Drop)]
 pub struct Report {
     pub records: u64,
     pub by_mode: [u64; 6],
@@ -27,7 +28,7 @@ pub struct Report {
 
 // The report before the first record.
 pub fn nothing() -> Report
-    ensures { λ r. ⌜ r ≡ nothing ⌝ }
+    ensures { result ≡ nothing }
 {
     Report {
         records: 0,
@@ -44,8 +45,8 @@ pub fn nothing() -> Report
 }
 
 fn mode_place(mode: u8) -> usize
-    ensures { λ r. ⌜ r ≡ modePlace mode ⌝ }
-    ensures { λ r. ⌜ r < 6 ⌝ }
+    ensures value { result ≡ mode_place mode }
+    ensures upper_bound { result < 6 }
 {
     if mode > 4 {
         return 5;
@@ -54,15 +55,15 @@ fn mode_place(mode: u8) -> usize
 }
 
 fn one_more(counts: &mut [u64], i: usize)
-    requires { ⌜ i < length (now counts) ⌝ }
-    requires { ⌜ getD (now counts) i 0 + 1 < 2 ^ 64 ⌝ }
-    ensures { λ _. ⌜ now (counts .exit) ≡ oneMore i (now (counts .entry)) ⌝ }
+    requires i_in_bounds { i < length counts.old }
+    requires i_bound { get_or counts.old i 0 + 1 < 2 ^ 64 }
+    ensures { counts.new ≡ one_more i counts.old }
 {
     counts[i] += 1;
 }
 
 fn first_of(differs: bool, index: u64, place: usize, first: Difference) -> Difference
-    ensures { λ r. ⌜ r ≡ firstOf differs index place first ⌝ }
+    ensures { result ≡ first_of differs index place first }
 {
     if first.found {
         return first;
@@ -79,12 +80,12 @@ fn first_of(differs: bool, index: u64, place: usize, first: Difference) -> Diffe
 
 // The report with one more record, which stands at `place`.
 pub(crate) fn counted(s: &[u8], x: Recomputed, place: usize, r: Report) -> Report
-    requires { ⌜ Stands (now s) ⌝ }
-    requires { ⌜ x .number < 27 ⌝ }
-    requires { ⌜ x .length ≤ 16 + length (front (now s) .«data») ⌝ }
-    requires { ⌜ Within place r ⌝ }
-    requires { ⌜ place + length (now s) < 2 ^ 64 ⌝ }
-    ensures { λ r′. ⌜ r′ ≡ counted (front (now (s .entry))) x place r ⌝ }
+    requires stands { Stands s.now }
+    requires number_bound { x.number < 27 }
+    requires length_bound { x.length ≤ 16 + length (front s.now).«data» }
+    requires within { Within place r }
+    requires s_bound { place + length s.now < 2 ^ 64 }
+    ensures { result ≡ counted (front s.now) x place r }
 {
     let mut by_mode = r.by_mode;
     one_more(&mut by_mode, mode_place(records::mode(s)));

@@ -1,18 +1,16 @@
 // Writes a record.
-ghost use mathlib.Core.Path.{_≡_};
-ghost use Prim.Native.Nat.{_+_, _≤_};
-ghost use lib.ListN.{length};
-ghost use Rattle·block.specs.Over.{over};
-ghost use Rattle·journal·specs.specs.Format.{directionByte, part};
-ghost use Rattle·journal·specs.specs.Writer.{headOf, middleOf, askedOf, answeredOf, entryOf, write};
+ghost use Rattle.std.specs.Prelude.{◌≡◌, ◌+◌, ◌≤◌, length};
+ghost use Rattle.block.specs.Over.{over};
+ghost use Rattle.journal.specs.Format.{direction_byte, part};
+ghost use Rattle.journal.specs.Writer.{head_of, middle_of, asked_of, answered_of, entry_of, write};
+
 use crate::records;
-use crate::records::HEAD;
-use crate::records::LENGTH;
-use crate::records::MIDDLE;
+use crate::records::{HEAD, LENGTH, MIDDLE};
 use cipher_mode::Direction;
 
 // What a record says of a call beside its label, data, IV and output: what was asked on which key, with how much room, and the number
 // of the answer.
+#[derive(Clone, Copy)]
 pub struct Call {
     pub direction: Direction,
     pub mode: u8,
@@ -22,6 +20,7 @@ pub struct Call {
 }
 
 // How many bytes were written; or a part or the output is past its limit; or the record does not fit.
+#[derive(Drop)]
 pub enum Wrote {
     Done(usize),
     TooLong,
@@ -29,7 +28,7 @@ pub enum Wrote {
 }
 
 fn direction_byte(direction: Direction) -> u8
-    ensures { λ r. ⌜ r ≡ directionByte direction ⌝ }
+    ensures { result ≡ direction_byte direction }
 {
     match direction {
         Direction::Encrypt => 0,
@@ -39,7 +38,7 @@ fn direction_byte(direction: Direction) -> u8
 
 // Mark, direction, mode and key number.
 fn head(call: Call) -> [u8; HEAD]
-    ensures { λ r. ⌜ r ≡ headOf call ⌝ }
+    ensures { result ≡ head_of call }
 {
     let direction = call.direction;
     let key = block::split(call.key as u32);
@@ -55,7 +54,7 @@ fn head(call: Call) -> [u8; HEAD]
 
 // Room and number.
 fn middle(call: Call) -> [u8; MIDDLE]
-    ensures { λ r. ⌜ r ≡ middleOf call ⌝ }
+    ensures { result ≡ middle_of call }
 {
     let room = block::split(call.room);
     [room[0], room[1], room[2], room[3], call.number]
@@ -63,25 +62,25 @@ fn middle(call: Call) -> [u8; MIDDLE]
 
 // A part after its length.
 fn put_part(p: &[u8], out: &mut [u8])
-    requires { ⌜ length (now p) ≤ 16400 ⌝ }
-    requires { ⌜ 4 + length (now p) ≤ length (now out) ⌝ }
-    ensures { λ _. ⌜ now (out .exit) ≡ over (part (now (p .entry))) (now (out .entry)) ⌝ }
+    requires p_len_bound { length p.now ≤ 16400 }
+    requires p_in_bounds { 4 + length p.now ≤ length out.old }
+    ensures { out.new ≡ over (part p.now) out.old }
 {
     let n = block::split(p.len() as u32);
-    bytes::copy(&n, out);
-    bytes::copy(p, &mut out[LENGTH..]);
+    out[..LENGTH].copy_from_slice(&n);
+    out[LENGTH..LENGTH + p.len()].copy_from_slice(p);
 }
 
 // What was asked.
 fn put_asked(call: Call, label: &[u8], data: &[u8], iv: &[u8], out: &mut [u8])
-    requires { ⌜ length (now label) ≤ 16384 ⌝ }
-    requires { ⌜ length (now «data») ≤ 16384 ⌝ }
-    requires { ⌜ length (now iv) ≤ 16384 ⌝ }
-    requires { ⌜ 18 + length (now label) + length (now «data») + length (now iv) ≤ length (now out) ⌝ }
-    ensures { λ _. ⌜ now (out .exit) ≡ over (askedOf call (now (label .entry)) (now («data» .entry)) (now (iv .entry))) (now (out .entry)) ⌝ }
+    requires label_len_bound { length label.now ≤ 16384 }
+    requires data_len_bound { length «data».now ≤ 16384 }
+    requires iv_len_bound { length iv.now ≤ 16384 }
+    requires iv_in_bounds { 18 + length label.now + length «data».now + length iv.now ≤ length out.old }
+    ensures { out.new ≡ over (asked_of call label.now «data».now iv.now) out.old }
 {
     let head = head(call);
-    bytes::copy(&head, out);
+    out[..HEAD].copy_from_slice(&head);
     put_part(label, &mut out[HEAD..]);
     let at = HEAD + LENGTH + label.len();
     put_part(data, &mut out[at..]);
@@ -91,12 +90,12 @@ fn put_asked(call: Call, label: &[u8], data: &[u8], iv: &[u8], out: &mut [u8])
 
 // What was answered.
 fn put_answered(call: Call, output: &[u8], out: &mut [u8])
-    requires { ⌜ length (now output) ≤ 16400 ⌝ }
-    requires { ⌜ 9 + length (now output) ≤ length (now out) ⌝ }
-    ensures { λ _. ⌜ now (out .exit) ≡ over (answeredOf call (now (output .entry))) (now (out .entry)) ⌝ }
+    requires output_len_bound { length output.now ≤ 16400 }
+    requires output_in_bounds { 9 + length output.now ≤ length out.old }
+    ensures { out.new ≡ over (answered_of call output.now) out.old }
 {
     let middle = middle(call);
-    bytes::copy(&middle, out);
+    out[..MIDDLE].copy_from_slice(&middle);
     put_part(output, &mut out[MIDDLE..]);
 }
 
@@ -109,7 +108,7 @@ pub fn write(
     output: &[u8],
     out: &mut [u8],
 ) -> Wrote
-    ensures { λ r. ⌜ record { wrote = r; bytes = now (out .exit) } ≡ write (entryOf call (now (label .entry)) (now («data» .entry)) (now (iv .entry)) (now (output .entry))) (now (out .entry)) ⌝ }
+    ensures { record { wrote = result; bytes = out.new } ≡ write (entry_of call label.now «data».now iv.now output.now) out.old }
 {
     if records::past_limit(label.len(), data.len(), iv.len(), output.len()) {
         return Wrote::TooLong;

@@ -1,8 +1,7 @@
 -- The label of a job and an edition.
-use Prim.Native.Nat.{ℕ}
-use mathlib.Core.List.{List, _++_}
-use Rattle·block.specs.BigEndian.{bytesOf}
+use Rattle.std.specs.Prelude.{ℕ, List, ◌++◌}
+use Rattle.block.specs.BigEndian.{bytes_of}
 
 -- the job in four bytes and the edition in two, the most significant byte first
-unfoldable pub labelOf : ℕ → ℕ → List ℕ
-labelOf job edition = bytesOf 4 job ++ bytesOf 2 edition
+unfoldable pub label_of : ℕ → ℕ → List ℕ
+label_of job edition = bytes_of 4 job ++ bytes_of 2 edition

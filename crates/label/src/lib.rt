@@ -1,10 +1,13 @@
 // The label of a job and an edition.
-ghost use mathlib.Core.Path.{_≡_};
-ghost use Rattle·label·specs.specs.Label.{labelOf};
+
+#![tactic(auto)]
+
+ghost use Rattle.std.specs.Prelude.{◌≡◌};
+ghost use Rattle.label.specs.Label.{label_of};
 
 // The label that a transcript is sealed under.
 pub fn label(job: u32, edition: u16) -> [u8; 6]
-    ensures { λ r. ⌜ r ≡ labelOf job edition ⌝ }
+    ensures { result ≡ label_of job edition }
 {
     let j = block::split(job);
     let e = block::split(edition as u32);

@@ -1,9 +1,6 @@
 -- Numbers that stand in a list, one by one.
-use mathlib.Core.Path.{_≡_}
-use mathlib.Core.List.{List}
-use Prim.Native.Nat.{ℕ, _<_}
-use lib.ListN.{getD}
+use Rattle.std.specs.Prelude.{◌≡◌, List, ℕ, ◌<◌, get_or}
 
 -- the first n words of a are those of f
 abbrev pub Each : (ℕ → ℕ) → ℕ → List ℕ → Type 0
-Each f n a = (g : ℕ) → g < n → getD a g 0 ≡ f g
+Each f n a = (g : ℕ) → g < n → get_or a g 0 ≡ f g

@@ -1,54 +1,54 @@
 -- A question with one candidate, of six bytes: its verdict, as an answer, is what is asked of a job and an edition.
-use Rattle·block.proofs.Base.{ℕ, _≡_, refl, sym, Bool, cond, false, true, List, [], _∷_, arith, ne-eqb, eqb, length, take-all}
-use Rattle·cipher_mode.specs.Outcome.{Head, under, finished, refusal}
-use Rattle·cipher_mode.specs.declared.Sm4Cipher.{Sm4Cipher}
-use Rattle·cipher_mode.specs.declared.CipherMode.the-variants.{Gcm}
-use Rattle·cipher_mode.specs.declared.Direction.the-variants.{Decrypt}
-use Rattle·cipher_mode.specs.declared.checks.Checked.{Checked}
-use Rattle·cipher_mode.specs.declared.checks.Checked.the-variants.{Passed, Refused}
-use Rattle·cipher_mode.specs.Checks.{andThen, keyAndIv, dataCheck}
-use Rattle·cipher_mode.specs.Key.{keyNumber}
-use Rattle·cipher_mode.proofs.Refusals.{refuses}
-use Rattle·editions.specs.Candidates.{sum, badList, anyTooLong}
-use Rattle·editions.specs.Which.{Verdict, noneWith, foundAt, onKey, firstOpening, searchCheck, checkedVerdict, opensWith, which, verdictOf}
-use Rattle·editions.specs.Which.{endedHead as endedHead·there}
-use Rattle·editions.specs.declared.Ended.{Ended}
-use Rattle·editions.specs.declared.Ended.the-variants.{Candidate, None, BadList, Refused as Refused·there}
-use Rattle·editions.specs.declared.Found.{Found}
-use Rattle·luossavin·specs.specs.Edition.{checkedHead, opensHead}
-use Rattle·luossavin·specs.specs.Which.{endedHead}
+use Rattle.block.proofs.Base.{ℕ, ◌≡◌, refl, sym, Bool, cond, false, true, List, [], ◌∷◌, arith, ne_eqb, eqb, length, take_all}
+use Rattle.cipher_mode.specs.Outcome.{Head, under, finished, refusal}
+use Rattle.cipher_mode.specs.declared.Sm4Cipher.{Sm4Cipher}
+use Rattle.cipher_mode.specs.declared.CipherMode.TheVariants.{Gcm}
+use Rattle.cipher_mode.specs.declared.Direction.TheVariants.{Decrypt}
+use Rattle.cipher_mode.specs.declared.checks.Checked.{Checked}
+use Rattle.cipher_mode.specs.declared.checks.Checked.TheVariants.{Passed, Refused}
+use Rattle.cipher_mode.specs.Checks.{and_then, key_and_iv, data_check}
+use Rattle.cipher_mode.specs.Key.{key_number}
+use Rattle.cipher_mode.proofs.Refusals.{refuses}
+use Rattle.editions.specs.Candidates.{sum, bad_list, any_too_long}
+use Rattle.editions.specs.Which.{Verdict, none_with, found_at, on_key, first_opening, search_check, checked_verdict, opens_with, which}
+use Rattle.editions.specs.Which.{verdict_of, ended_head as ended_head_there}
+use Rattle.editions.specs.declared.Ended.{Ended}
+use Rattle.editions.specs.declared.Ended.TheVariants.{Candidate, None, BadList, Refused as RefusedThere}
+use Rattle.editions.specs.declared.Found.{Found}
+use Rattle.luossavin.specs.Edition.{checked_head, opens_head}
+use Rattle.luossavin.specs.Which.{ended_head}
 
 -- where no candidate is no refusal, an answer is the verdict's
-pub none-is-done : (e : Ended) → endedHead 0 e ≡ endedHead·there e
-none-is-done Candidate = refl
-none-is-done None = refl
-none-is-done BadList = refl
-none-is-done (Refused·there r) = refl
+pub none_is_done : (e : Ended) → ended_head 0 e ≡ ended_head_there e
+none_is_done Candidate = refl
+none_is_done None = refl
+none_is_done BadList = refl
+none_is_done (RefusedThere r) = refl
 
 -- a verdict on one candidate, as an answer
-abbrev pub toOne : Verdict → Head
-toOne v = cond (v .found) (v .head) (cond (eqb (v .head .number) 0) (under (v .head .key) (refusal 4)) (v .head))
+abbrev pub to_one : Verdict → Head
+to_one v = cond v.found v.head (cond (eqb v.head.number 0) (under v.head.key (refusal 4)) v.head)
 
-to-one : (e : Ended) (f : Found) → f .ended ≡ e → toOne (verdictOf f) ≡ under (f .key) (endedHead 4 e)
-to-one Candidate f h = rw h
-to-one None f h = rw h
-to-one BadList f h = rw h
-to-one (Refused·there r) f h = rw (h, ne-eqb _ _ (refuses r .not-zero))
+to_one_lem : (e : Ended) (f : Found) → f.ended ≡ e → to_one (verdict_of f) ≡ under f.key (ended_head 4 e)
+to_one_lem Candidate f h = rw h
+to_one_lem None f h = rw h
+to_one_lem BadList f h = rw h
+to_one_lem (RefusedThere r) f h = rw (h, ne_eqb _ _ (refuses r).not-zero)
 
-pub asked-ended : (f : Found) → under (f .key) (endedHead 4 (f .ended)) ≡ toOne (verdictOf f)
-asked-ended f = sym (to-one (f .ended) f refl)
+pub asked_ended : (f : Found) → under f.key (ended_head 4 f.ended) ≡ to_one (verdict_of f)
+asked_ended f = sym (to_one_lem f.ended f refl)
 
 module _ (c : Sm4Cipher) (label file iv : List ℕ) (six : length label ≡ 6) where
   answered : (k : Checked) (t : Bool)
-      → toOne (onKey (keyNumber c) (checkedVerdict k (cond t (foundAt 0 0 6) (noneWith (finished 0)))))
-      ≡ under (keyNumber c) (checkedHead k (cond t (finished 0) (refusal 4)))
+      → to_one (on_key (key_number c) (checked_verdict k (cond t (found_at 0 0 6) (none_with (finished 0)))))
+      ≡ under (key_number c) (checked_head k (cond t (finished 0) (refusal 4)))
   answered Passed true = refl
   answered Passed false = refl
-  answered (Refused r) t = rw (ne-eqb _ _ (refuses r .not-zero))
+  answered (Refused r) t = rw (ne_eqb _ _ (refuses r).not-zero)
 
-  pub one-candidate : toOne (which c file iv label (6 ∷ [])) ≡ under (keyNumber c) (opensHead c label file iv)
-  unfolding which opensHead badList sum searchCheck anyTooLong firstOpening
-  one-candidate =
-      rw (six, take-all 6 label (omega (arith, six)))
-      (answered (andThen (keyAndIv (c .answer) (c .retired) Decrypt Gcm (length iv)) (dataCheck Decrypt Gcm (length file)))
-      (opensWith c iv file label))
+  pub one_candidate : to_one (which c file iv label (6 ∷ [])) ≡ under (key_number c) (opens_head c label file iv)
+  unfolding which opens_head bad_list sum search_check any_too_long first_opening
+  one_candidate =
+      rw (six, take_all 6 label (omega (arith, six)))
+      (answered (and_then (key_and_iv c.answer c.retired Decrypt Gcm (length iv)) (data_check Decrypt Gcm (length file)))
+      (opens_with c iv file label))

@@ -1,7 +1,7 @@
 -- A yes or no as a host is handed it: 1 or 0.
-use Rattle·block.proofs.Base.{_≡_, refl, Bool, cond, false, true}
-use mir.Val.{boolByte}
+use Rattle.block.proofs.Base.{◌≡◌, refl, Bool, cond, false, true}
+use mir.Val.{bool_byte}
 
-pub mark-byte : (b : Bool) → boolByte b ≡ cond b 1 0
+pub mark-byte : (b : Bool) → bool_byte b ≡ cond b 1 0
 mark-byte true = refl
 mark-byte false = refl

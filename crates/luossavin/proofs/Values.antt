@@ -1,8 +1,8 @@
 -- A number tells its halves.
-use Rattle·block.proofs.Base.{ℕ, _≡_, digits-div, digits-mod, w64, Fits}
-use Rattle·block.specs.Wide.{value}
-use Rattle·block.specs.declared.U128.{U128}
-use Rattle·luossavin·specs.specs.Halves.{hashOf}
+use Rattle.block.proofs.Base.{ℕ, ◌≡◌, digits_div, digits_mod, w64, Fits}
+use Rattle.block.specs.Wide.{value}
+use Rattle.block.specs.declared.U128.{U128}
+use Rattle.luossavin.specs.Halves.{hash_of}
 
-pub of-value : (r : U128) {n : ℕ} → Fits w64 (r .low) → value r ≡ n → r ≡ hashOf n
-of-value r small e = rw (← e, digits-div (r .high) (small .fits), digits-mod (r .high) (small .fits))
+pub of-value : (r : U128) {n : ℕ} → Fits w64 r.low → value r ≡ n → r ≡ hash_of n
+of-value r small e = rw (← e, digits_div r.high small.fits, digits_mod r.high small.fits)

@@ -1,46 +1,42 @@
 -- The exported call that writes the record of a call: what it leaves.
-use Prim.Native.Nat.{ℕ}
-use mathlib.Core.Bool.{Bool, cond}
-use mathlib.Core.List.{List}
-use lib.Dec.{ltb}
-use lib.ListN.{length}
-use Rattle·cipher_mode.specs.Outcome.{Head, Outcome, finished, refusal, refuse, done}
-use Rattle·journal.specs.Format.{Entry, written, tooLong}
-use Rattle·journal.specs.declared.writer.Wrote.{Wrote}
-use Rattle·journal.specs.declared.writer.Wrote.the-variants.{Done, TooLong, NoRoom}
-use Rattle·luossavin·specs.specs.InPieces.{directionOf}
+use Rattle.std.specs.Prelude.{ℕ, Bool, cond, List, ltb, length}
+use Rattle.cipher_mode.specs.Outcome.{Head, Outcome, finished, refusal, refuse, done}
+use Rattle.journal.specs.Format.{Entry, written, too_long}
+use Rattle.journal.specs.declared.writer.Wrote.{Wrote}
+use Rattle.journal.specs.declared.writer.Wrote.TheVariants.{Done, TooLong, NoRoom}
+use Rattle.luossavin.specs.InPieces.{direction_of}
 
 -- n, or the most that there is room for
-unfoldable pub atMost : ℕ → ℕ → ℕ
-atMost most n = cond (ltb most n) most n
+unfoldable pub at_most : ℕ → ℕ → ℕ
+at_most most n = cond (ltb most n) most n
 
 -- the call as a record has it: mode and answer in a byte each, the room in four
-abbrev pub entryIn : Bool → ℕ → ℕ → List ℕ → List ℕ → List ℕ → ℕ → ℕ → List ℕ → Entry
-entryIn decrypt mode key label d iv room number output =
+abbrev pub entry_in : Bool → ℕ → ℕ → List ℕ → List ℕ → List ℕ → ℕ → ℕ → List ℕ → Entry
+entry_in decrypt mode key label d iv room number output =
     record {
-      direction = directionOf decrypt;
-      mode = atMost 255 mode;
+      direction = direction_of decrypt;
+      mode = at_most 255 mode;
       key = key;
       label = label;
       «data» = d;
       iv = iv;
-      room = atMost 0xffff_ffff room;
-      number = atMost 255 number;
+      room = at_most 0xffff_ffff room;
+      number = at_most 255 number;
       output = output;
     }
 
 -- the entry e at the front of o: 24 where one of its parts is too long, 6 where there is no room for it
 unfoldable pub recorded : Entry → List ℕ → Outcome
 recorded e o =
-    refuse (tooLong e) 24 o
+    refuse (too_long e) 24 o
     (refuse (ltb (length o) (length (written e))) 6 o
     (done (written e) o))
 
-unfoldable pub hostRecord : Bool → ℕ → ℕ → List ℕ → List ℕ → List ℕ → ℕ → ℕ → List ℕ → List ℕ → Outcome
-hostRecord decrypt mode key label d iv room number output o = recorded (entryIn decrypt mode key label d iv room number output) o
+unfoldable pub host_record : Bool → ℕ → ℕ → List ℕ → List ℕ → List ℕ → ℕ → ℕ → List ℕ → List ℕ → Outcome
+host_record decrypt mode key label d iv room number output o = recorded (entry_in decrypt mode key label d iv room number output) o
 
 -- how a writer ended, as an answer, which is on no key
-abbrev pub wroteHead : Wrote → Head
-wroteHead (Done n) = finished n
-wroteHead TooLong = refusal 24
-wroteHead NoRoom = refusal 6
+abbrev pub wrote_head : Wrote → Head
+wrote_head (Done n) = finished n
+wrote_head TooLong = refusal 24
+wrote_head NoRoom = refusal 6

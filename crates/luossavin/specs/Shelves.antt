@@ -1,13 +1,12 @@
 -- The exported calls on a shelf: what a host's answer spells. What each call leaves is defined in `shelf`.
-use Prim.Native.Nat.{ℕ}
-use mathlib.Core.List.{List}
-use Rattle·shelf.specs.Calls.{Outcome, Place}
-use Rattle·luossavin·specs.specs.declared.shelves.LuossavinShelf.{LuossavinShelf}
-use Rattle·luossavin·specs.specs.declared.shelves.LuossavinShelved.{LuossavinShelved}
+use Rattle.std.specs.Prelude.{ℕ, List}
+use Rattle.shelf.specs.Calls.{Outcome, Place}
+use Rattle.luossavin.specs.declared.shelves.LuossavinShelf.{LuossavinShelf}
+use Rattle.luossavin.specs.declared.shelves.LuossavinShelved.{LuossavinShelved}
 
 -- the outcome of a host's answer with the buffer
-abbrev pub shelfReported : LuossavinShelf → List ℕ → Outcome
-shelfReported r shelf = record { number = r .number; used = r .used; bytes = shelf }
+abbrev pub shelf_reported : LuossavinShelf → List ℕ → Outcome
+shelf_reported r shelf = record { number = r.number; used = r.used; bytes = shelf }
 
-abbrev pub shelvedReported : LuossavinShelved → Place
-shelvedReported r = record { number = r .number; start = r .start; size = r .length }
+abbrev pub shelved_reported : LuossavinShelved → Place
+shelved_reported r = record { number = r.number; start = r.start; size = r.length }

@@ -1,18 +1,18 @@
 // A job's editions, for a host: the label, sealing and opening under it, and the question whether a file opens under it, which makes
 // no text.
-ghost use mathlib.Core.Path.{_≡_};
-ghost use Rattle·label.specs.Label.{labelOf};
-ghost use Rattle·luossavin·specs.specs.Host.{headIn, reported, hostModeCall};
-ghost use Rattle·luossavin·specs.specs.Edition.{hostEditionOpens};
-use crate::LuossavinAnswer;
-use crate::key::LuossavinKey;
-use crate::key::cipher_of;
-use crate::mode_call;
+ghost use Rattle.std.specs.Prelude.{◌≡◌};
+ghost use Rattle.label.specs.Label.{label_of};
+ghost use Rattle.luossavin.specs.Host.{head_in, reported, host_mode_call};
+ghost use Rattle.luossavin.specs.Edition.{host_edition_opens};
+
+use crate::key::{LuossavinKey, cipher_of};
 use crate::which::report_ended;
+use crate::{LuossavinAnswer, mode_call};
 use cipher_mode::Direction;
 
 // The six bytes of a label.
 #[repr(C)]
+#[derive(Drop)]
 pub struct LuossavinLabel {
     pub bytes: [u8; 6],
 }
@@ -23,16 +23,16 @@ const GCM: u32 = 4;
 // The refusal of a tag.
 const INVALID_TAG: u32 = 4;
 
-#[no_mangle]
+#[unsafe(no_mangle)]
 pub extern "C" fn luossavin_label(job: u32, edition: u16) -> LuossavinLabel
-    ensures { λ r. ⌜ r .bytes ≡ labelOf job edition ⌝ }
+    ensures { result.bytes ≡ label_of job edition }
 {
     LuossavinLabel {
         bytes: label::label(job, edition),
     }
 }
 
-#[no_mangle]
+#[unsafe(no_mangle)]
 pub extern "C" fn luossavin_edition_opens(
     key: LuossavinKey,
     job: u32,
@@ -40,7 +40,7 @@ pub extern "C" fn luossavin_edition_opens(
     sealed: &[u8],
     iv: &[u8],
 ) -> LuossavinAnswer
-    ensures { λ r. ⌜ headIn r ≡ hostEditionOpens key job edition (now (sealed .entry)) (now (iv .entry)) ⌝ }
+    ensures { head_in result ≡ host_edition_opens key job edition sealed.now iv.now }
 {
     let label = label::label(job, edition);
     let lengths = [6usize];
@@ -49,7 +49,7 @@ pub extern "C" fn luossavin_edition_opens(
     report_ended(ended, found.key, INVALID_TAG)
 }
 
-#[no_mangle]
+#[unsafe(no_mangle)]
 pub extern "C" fn luossavin_edition_seal(
     key: LuossavinKey,
     job: u32,
@@ -58,13 +58,13 @@ pub extern "C" fn luossavin_edition_seal(
     iv: &[u8],
     out: &mut [u8],
 ) -> LuossavinAnswer
-    ensures { λ r. ⌜ reported r (now (out .exit)) ≡ hostModeCall Direction.Encrypt 4 key (labelOf job edition) (now (text .entry)) (now (iv .entry)) (now (out .entry)) ⌝ }
+    ensures { reported result out.new ≡ host_mode_call Direction.Encrypt 4 key (label_of job edition) text.now iv.now out.old }
 {
     let label = label::label(job, edition);
     mode_call(Direction::Encrypt, GCM, key, &label, text, iv, out)
 }
 
-#[no_mangle]
+#[unsafe(no_mangle)]
 pub extern "C" fn luossavin_edition_open(
     key: LuossavinKey,
     job: u32,
@@ -73,7 +73,7 @@ pub extern "C" fn luossavin_edition_open(
     iv: &[u8],
     out: &mut [u8],
 ) -> LuossavinAnswer
-    ensures { λ r. ⌜ reported r (now (out .exit)) ≡ hostModeCall Direction.Decrypt 4 key (labelOf job edition) (now (sealed .entry)) (now (iv .entry)) (now (out .entry)) ⌝ }
+    ensures { reported result out.new ≡ host_mode_call Direction.Decrypt 4 key (label_of job edition) sealed.now iv.now out.old }
 {
     let label = label::label(job, edition);
     mode_call(Direction::Decrypt, GCM, key, &label, sealed, iv, out)

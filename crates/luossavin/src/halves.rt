@@ -1,25 +1,26 @@
 // Hashes of halves, for a host: blocks are hashed by themselves, and two hashes are joined. Nothing is refused. A hash is the
 // big-endian number of its 16 bytes.
-ghost use mathlib.Core.Path.{_≡_};
-ghost use Rattle·luossavin·specs.specs.Halves.{hostHashBlocks, hostHashJoin};
+ghost use Rattle.std.specs.Prelude.{◌≡◌};
+ghost use Rattle.luossavin.specs.Halves.{host_hash_blocks, host_hash_join};
+
 use block::U128;
 use ghash::halves;
 
-#[no_mangle]
+#[unsafe(no_mangle)]
 pub extern "C" fn luossavin_hash_blocks(h: U128, bytes: &[u8]) -> U128
-    ensures { λ r. ⌜ r ≡ hostHashBlocks h (now (bytes .entry)) ⌝ }
+    ensures { result ≡ host_hash_blocks h bytes.now }
 {
     halves::hash_blocks(h, bytes)
 }
 
-#[no_mangle]
+#[unsafe(no_mangle)]
 pub extern "C" fn luossavin_hash_join(
     h: U128,
     first: U128,
     second: U128,
     second_blocks: u64,
 ) -> U128
-    ensures { λ r. ⌜ r ≡ hostHashJoin h first second «second_blocks» ⌝ }
+    ensures { result ≡ host_hash_join h first second second_blocks }
 {
     halves::join(h, first, second, second_blocks)
 }

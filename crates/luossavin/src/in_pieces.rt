@@ -1,41 +1,40 @@
 // Messages in pieces, for a host: the calls of the crate `pieces`, which a start takes the key's record for. A state goes in
 // and comes back by value, beside the answer, and each of its values has an answer.
-ghost use mathlib.Core.Path.{_≡_};
-ghost use mathlib.Core.List.{[]};
-ghost use Rattle·cipher_mode.specs.Answer.{headOf};
-ghost use Rattle·pieces.specs.Calls.{ctrPiece, ctrEnd, sealPiece, sealEnd, opensPiece, opensEnd};
-ghost use Rattle·luossavin·specs.specs.Host.{headIn};
-ghost use Rattle·luossavin·specs.specs.InPieces.{ctrReported, sealReported, opensReported, directionOf, hostCtrStart, hostSealStart, hostOpensStart};
-use crate::LuossavinAnswer;
-use crate::key::LuossavinKey;
-use crate::key::cipher_of;
-use crate::report;
+ghost use Rattle.std.specs.Prelude.{◌≡◌, []};
+ghost use Rattle.cipher_mode.specs.Answer.{head_of};
+ghost use Rattle.pieces.specs.Calls.{ctr_piece, ctr_end, seal_piece, seal_end, opens_piece, opens_end};
+ghost use Rattle.luossavin.specs.Host.{head_in};
+ghost use Rattle.luossavin.specs.InPieces.{ctr_reported, seal_reported, opens_reported, direction_of, host_ctr_start, host_seal_start, host_opens_start};
+
+use crate::key::{LuossavinKey, cipher_of};
+use crate::{LuossavinAnswer, report};
 use cipher_mode::Direction;
-use pieces::ctr;
 use pieces::ctr::Ctr;
-use pieces::opens;
-use pieces::seal;
+use pieces::{ctr, opens, seal};
 
 #[repr(C)]
+#[derive(Drop)]
 pub struct LuossavinCtrStep {
     pub answer: LuossavinAnswer,
     pub state: Ctr,
 }
 
 #[repr(C)]
+#[derive(Drop)]
 pub struct LuossavinSealStep {
     pub answer: LuossavinAnswer,
     pub state: seal::Seal,
 }
 
 #[repr(C)]
+#[derive(Drop)]
 pub struct LuossavinOpensStep {
     pub answer: LuossavinAnswer,
     pub state: opens::Opens,
 }
 
 fn ctr_step(step: ctr::CtrStep) -> LuossavinCtrStep
-    ensures { λ r. ⌜ (headIn (r .answer) ≡ headOf (step .answer)) × (r .state ≡ step .state) ⌝ }
+    ensures { (head_in result.answer ≡ head_of step.answer) × (result.state ≡ step.state) }
 {
     let state = step.state;
     LuossavinCtrStep {
@@ -45,7 +44,7 @@ fn ctr_step(step: ctr::CtrStep) -> LuossavinCtrStep
 }
 
 fn seal_step(step: seal::SealStep) -> LuossavinSealStep
-    ensures { λ r. ⌜ (headIn (r .answer) ≡ headOf (step .answer)) × (r .state ≡ step .state) ⌝ }
+    ensures { (head_in result.answer ≡ head_of step.answer) × (result.state ≡ step.state) }
 {
     let state = step.state;
     LuossavinSealStep {
@@ -55,7 +54,7 @@ fn seal_step(step: seal::SealStep) -> LuossavinSealStep
 }
 
 fn opens_step(step: opens::OpensStep) -> LuossavinOpensStep
-    ensures { λ r. ⌜ (headIn (r .answer) ≡ headOf (step .answer)) × (r .state ≡ step .state) ⌝ }
+    ensures { (head_in result.answer ≡ head_of step.answer) × (result.state ≡ step.state) }
 {
     let state = step.state;
     LuossavinOpensStep {
@@ -65,7 +64,7 @@ fn opens_step(step: opens::OpensStep) -> LuossavinOpensStep
 }
 
 pub(crate) fn direction_of(decrypt: bool) -> Direction
-    ensures { λ r. ⌜ r ≡ directionOf decrypt ⌝ }
+    ensures { result ≡ direction_of decrypt }
 {
     if decrypt {
         return Direction::Decrypt;
@@ -73,81 +72,81 @@ pub(crate) fn direction_of(decrypt: bool) -> Direction
     Direction::Encrypt
 }
 
-#[no_mangle]
+#[unsafe(no_mangle)]
 pub extern "C" fn luossavin_ctr_start(
     key: LuossavinKey,
     decrypt: bool,
     iv: &[u8],
 ) -> LuossavinCtrStep
-    ensures { λ r. ⌜ ctrReported r [] ≡ hostCtrStart key decrypt (now (iv .entry)) ⌝ }
+    ensures { ctr_reported result [] ≡ host_ctr_start key decrypt iv.now }
 {
     ctr_step(ctr::start(direction_of(decrypt), cipher_of(key), iv))
 }
 
-#[no_mangle]
+#[unsafe(no_mangle)]
 pub extern "C" fn luossavin_ctr_piece(state: Ctr, data: &[u8], out: &mut [u8]) -> LuossavinCtrStep
-    ensures { λ r. ⌜ ctrReported r (now (out .exit)) ≡ ctrPiece state (now («data» .entry)) (now (out .entry)) ⌝ }
+    ensures { ctr_reported result out.new ≡ ctr_piece state «data».now out.old }
 {
     ctr_step(state.piece(data, out))
 }
 
-#[no_mangle]
+#[unsafe(no_mangle)]
 pub extern "C" fn luossavin_ctr_end(state: Ctr) -> LuossavinCtrStep
-    ensures { λ r. ⌜ ctrReported r [] ≡ ctrEnd state ⌝ }
+    ensures { ctr_reported result [] ≡ ctr_end state }
 {
     ctr_step(state.end())
 }
 
-#[no_mangle]
+#[unsafe(no_mangle)]
 pub extern "C" fn luossavin_seal_start(
     key: LuossavinKey,
     aad: &[u8],
     iv: &[u8],
 ) -> LuossavinSealStep
-    ensures { λ r. ⌜ sealReported r [] ≡ hostSealStart key (now (aad .entry)) (now (iv .entry)) ⌝ }
+    ensures { seal_reported result [] ≡ host_seal_start key aad.now iv.now }
 {
     seal_step(seal::start(cipher_of(key), aad, iv))
 }
 
-#[no_mangle]
+#[unsafe(no_mangle)]
 pub extern "C" fn luossavin_seal_piece(
     state: seal::Seal,
     data: &[u8],
     out: &mut [u8],
 ) -> LuossavinSealStep
-    ensures { λ r. ⌜ sealReported r (now (out .exit)) ≡ sealPiece state (now («data» .entry)) (now (out .entry)) ⌝ }
+    ensures { seal_reported result out.new ≡ seal_piece state «data».now out.old }
 {
     seal_step(state.piece(data, out))
 }
 
-#[no_mangle]
+#[unsafe(no_mangle)]
 pub extern "C" fn luossavin_seal_end(state: seal::Seal, out: &mut [u8]) -> LuossavinSealStep
-    ensures { λ r. ⌜ sealReported r (now (out .exit)) ≡ sealEnd state (now (out .entry)) ⌝ }
+    ensures { seal_reported result out.new ≡ seal_end state out.old }
 {
     seal_step(state.end(out))
 }
 
-#[no_mangle]
+#[unsafe(no_mangle)]
 pub extern "C" fn luossavin_opens_start(
     key: LuossavinKey,
     aad: &[u8],
     iv: &[u8],
 ) -> LuossavinOpensStep
-    ensures { λ r. ⌜ opensReported r [] ≡ hostOpensStart key (now (aad .entry)) (now (iv .entry)) ⌝ }
+    ensures { opens_reported result [] ≡ host_opens_start key aad.now iv.now }
 {
     opens_step(opens::start(cipher_of(key), aad, iv))
 }
 
-#[no_mangle]
+#[unsafe(no_mangle)]
 pub extern "C" fn luossavin_opens_piece(state: opens::Opens, data: &[u8]) -> LuossavinOpensStep
-    ensures { λ r. ⌜ opensReported r [] ≡ opensPiece state (now («data» .entry)) ⌝ }
+    ensures { opens_reported result [] ≡ opens_piece state «data».now }
 {
     opens_step(state.piece(data))
 }
 
-#[no_mangle]
+#[unsafe(no_mangle)]
 pub extern "C" fn luossavin_opens_end(state: opens::Opens, tag: &[u8]) -> LuossavinOpensStep
-    ensures { λ r. ⌜ opensReported r [] ≡ opensEnd state (now (tag .entry)) ⌝ }
+    ensures { opens_reported result [] ≡ opens_end state tag.now }
 {
     opens_step(state.end(tag))
 }

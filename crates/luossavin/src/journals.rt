@@ -1,23 +1,20 @@
 // A journal of recorded calls, for a host: the record of a call of `luossavin_encrypt` or `luossavin_decrypt` is written, and the
 // calls of a journal are made again, on the records that the host's are.
-ghost use mathlib.Core.Path.{_≡_};
-ghost use Prim.Native.Nat.{_≤_};
-ghost use Rattle·luossavin·specs.specs.Host.{headIn, reported};
-ghost use Rattle·luossavin·specs.specs.Journals.{keysOf, toldOf, hostReplay};
-ghost use Rattle·luossavin·specs.specs.Recording.{atMost, wroteHead, hostRecord};
-use crate::LuossavinAnswer;
+ghost use Rattle.std.specs.Prelude.{◌≡◌, ◌≤◌};
+ghost use Rattle.luossavin.specs.Host.{head_in, reported};
+ghost use Rattle.luossavin.specs.Journals.{keys_of, told_of, host_replay};
+ghost use Rattle.luossavin.specs.Recording.{at_most, wrote_head, host_record};
+
 use crate::in_pieces::direction_of;
-use crate::key::LuossavinKey;
-use crate::key::cipher_of;
-use crate::numbered;
-use crate::report;
+use crate::key::{LuossavinKey, cipher_of};
+use crate::{LuossavinAnswer, numbered, report};
 use cipher_mode::answer;
-use journal::Replayed;
 use journal::keys::Keys;
-use journal::writer;
+use journal::{Replayed, writer};
 
 // The first `count` records; the others are not looked at.
 #[repr(C)]
+#[derive(Drop)]
 pub struct LuossavinKeys {
     pub count: usize,
     pub keys: [LuossavinKey; 8],
@@ -27,6 +24,7 @@ pub struct LuossavinKeys {
 // where a record differs, how many records are before the first that does, and its place; and the totals. Where there is no such
 // record, what is said of it is 0.
 #[repr(C)]
+#[derive(Drop)]
 pub struct LuossavinReplayed {
     pub number: u32,
     pub differs: u32,
@@ -42,7 +40,7 @@ pub struct LuossavinReplayed {
 
 // The records that `journal` takes.
 fn keys_of(keys: LuossavinKeys) -> Keys
-    ensures { λ r. ⌜ r ≡ keysOf keys ⌝ }
+    ensures { result ≡ keys_of keys }
 {
     let theirs = keys.keys;
     let mut ours = [cipher_of(theirs[0]); 8];
@@ -58,7 +56,7 @@ fn keys_of(keys: LuossavinKeys) -> Keys
 }
 
 fn report_replayed(replayed: Replayed) -> LuossavinReplayed
-    ensures { λ r. ⌜ r ≡ toldOf replayed ⌝ }
+    ensures { result ≡ told_of replayed }
 {
     let ended = replayed.ended;
     let totals = replayed.report;
@@ -79,16 +77,16 @@ fn report_replayed(replayed: Replayed) -> LuossavinReplayed
     }
 }
 
-#[no_mangle]
+#[unsafe(no_mangle)]
 pub extern "C" fn luossavin_replay(keys: LuossavinKeys, file: &[u8]) -> LuossavinReplayed
-    ensures { λ r. ⌜ r ≡ hostReplay keys (now (file .entry)) ⌝ }
+    ensures { result ≡ host_replay keys file.now }
 {
     report_replayed(journal::replay(keys_of(keys), file))
 }
 
 // A number as a record has room for it: one that is larger as the largest.
 fn at_most(most: usize, n: usize) -> usize
-    ensures { λ r. ⌜ (r ≡ atMost most n) × (r ≤ most) ⌝ }
+    ensures { (result ≡ at_most most n) × (result ≤ most) }
 {
     if n > most {
         return most;
@@ -97,7 +95,7 @@ fn at_most(most: usize, n: usize) -> usize
 }
 
 fn report_wrote(wrote: writer::Wrote) -> LuossavinAnswer
-    ensures { λ r. ⌜ headIn r ≡ wroteHead wrote ⌝ }
+    ensures { head_in result ≡ wrote_head wrote }
 {
     match wrote {
         writer::Wrote::Done(n) => report(answer::done(0, n)),
@@ -106,7 +104,7 @@ fn report_wrote(wrote: writer::Wrote) -> LuossavinAnswer
     }
 }
 
-#[no_mangle]
+#[unsafe(no_mangle)]
 pub extern "C" fn luossavin_record(
     decrypt: bool,
     mode: u32,
@@ -119,7 +117,7 @@ pub extern "C" fn luossavin_record(
     output: &[u8],
     out: &mut [u8],
 ) -> LuossavinAnswer
-    ensures { λ r. ⌜ reported r (now (out .exit)) ≡ hostRecord decrypt mode key (now (aad .entry)) (now («data» .entry)) (now (iv .entry)) room number (now (output .entry)) (now (out .entry)) ⌝ }
+    ensures { reported result out.new ≡ host_record decrypt mode key aad.now «data».now iv.now room number output.now out.old }
 {
     let call = writer::Call {
         direction: direction_of(decrypt),

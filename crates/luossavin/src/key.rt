@@ -1,12 +1,13 @@
 // A key's record, as a host holds it. A host can put anything into one, and each value has its answer.
-ghost use mathlib.Core.Path.{_≡_};
-ghost use Rattle·cipher_mode.specs.Key.{keyHead};
-ghost use Rattle·luossavin·specs.specs.Key.{keyAnswerOf, cipherIn, hostKeyNew, hostKeyRetire, engineMark, hostKeyEngine};
-use cipher_mode::KeyAnswer;
-use cipher_mode::Sm4Cipher;
+ghost use Rattle.std.specs.Prelude.{◌≡◌};
+ghost use Rattle.cipher_mode.specs.Key.{key_head};
+ghost use Rattle.luossavin.specs.Key.{key_answer_of, cipher_in, host_key_new, host_key_retire, engine_mark, host_key_engine};
+
+use cipher_mode::{KeyAnswer, Sm4Cipher};
 
 // It stands for `Sm4Cipher`, whose answer is an enum and whose mark is a bool, for which a host may hand over any number.
 #[repr(C)]
+#[derive(Clone, Copy)]
 pub struct LuossavinKey {
     pub round_keys: [u32; 32],
     pub answer: u32,
@@ -15,8 +16,9 @@ pub struct LuossavinKey {
     pub engine: u8,
 }
 
+#[tactic(auto, unfolding(crate::specs::Key::key_answer_of))]
 fn key_answer_of(answer: u32) -> KeyAnswer
-    ensures { λ r. ⌜ r ≡ keyAnswerOf answer ⌝ }
+    ensures { result ≡ key_answer_of answer }
 {
     match answer {
         0 => KeyAnswer::Key,
@@ -27,7 +29,7 @@ fn key_answer_of(answer: u32) -> KeyAnswer
 
 // The record that the calls of `cipher_mode` take.
 pub(crate) fn cipher_of(key: LuossavinKey) -> Sm4Cipher
-    ensures { λ r. ⌜ r ≡ cipherIn key ⌝ }
+    ensures { result ≡ cipher_in key }
 {
     let rk = key.round_keys;
     Sm4Cipher {
@@ -41,7 +43,7 @@ pub(crate) fn cipher_of(key: LuossavinKey) -> Sm4Cipher
 
 // The number of a key's answer.
 fn answer_number(answer: KeyAnswer) -> u32
-    ensures { λ r. ⌜ r ≡ keyHead answer .number ⌝ }
+    ensures { result ≡ (key_head answer).number }
 {
     match answer {
         KeyAnswer::Key => 0,
@@ -50,9 +52,9 @@ fn answer_number(answer: KeyAnswer) -> u32
     }
 }
 
-#[no_mangle]
+#[unsafe(no_mangle)]
 pub extern "C" fn luossavin_key_new(key: &[u8], number: u32) -> LuossavinKey
-    ensures { λ r. ⌜ r ≡ hostKeyNew (now (key .entry)) number ⌝ }
+    ensures { result ≡ host_key_new key.now number }
 {
     let cipher = Sm4Cipher::new(key, number);
     let rk = cipher.rk;
@@ -67,9 +69,9 @@ pub extern "C" fn luossavin_key_new(key: &[u8], number: u32) -> LuossavinKey
 }
 
 // A key is retired, and what is no key comes back as it was.
-#[no_mangle]
+#[unsafe(no_mangle)]
 pub extern "C" fn luossavin_key_retire(key: LuossavinKey) -> LuossavinKey
-    ensures { λ r. ⌜ r ≡ hostKeyRetire key ⌝ }
+    ensures { result ≡ host_key_retire key }
 {
     if key.answer != 0 {
         return key;
@@ -81,7 +83,7 @@ pub extern "C" fn luossavin_key_retire(key: LuossavinKey) -> LuossavinKey
 
 // The mark of an engine: 1 is the four tables, 2 the gates, 3 the plain engine, and all else leaves the choice to the library.
 fn mark_of(engine: u32) -> u8
-    ensures { λ r. ⌜ r ≡ engineMark engine ⌝ }
+    ensures { result ≡ engine_mark engine }
 {
     if engine > 3 {
         return 0;
@@ -90,9 +92,9 @@ fn mark_of(engine: u32) -> u8
 }
 
 // The record with an engine. Nothing else of it changes.
-#[no_mangle]
+#[unsafe(no_mangle)]
 pub extern "C" fn luossavin_key_engine(key: LuossavinKey, engine: u32) -> LuossavinKey
-    ensures { λ r. ⌜ r ≡ hostKeyEngine key engine ⌝ }
+    ensures { result ≡ host_key_engine key engine }
 {
     let mut marked = key;
     marked.engine = mark_of(engine);

@@ -1,6 +1,9 @@
 // The host boundary: what a host in C or Rust links, declared in `include/luossavin.h`. Every call ends with an answer, and
 // none has a `requires`: a host that breaks one could not be told. A struct of the crates below crosses as it is where its layout is
 // the header's. One that holds an enum or a bool cannot: a struct of numbers stands for it here.
+
+#![tactic(auto)]
+
 mod edition;
 mod halves;
 mod in_pieces;
@@ -10,19 +13,18 @@ mod shelves;
 mod which;
 mod workers;
 
-ghost use mathlib.Core.Path.{_≡_};
-ghost use Rattle·cipher_mode.specs.Outcome.{under, refusal};
-ghost use Rattle·cipher_mode.specs.Answer.{headOf};
-ghost use Rattle·luossavin·specs.specs.Host.{headIn, reported, modeIn, hostBlockCall, hostModeCall};
-use cipher_mode::Direction;
-use cipher_mode::Sm4CipherMode;
-use cipher_mode::answer;
-use key::LuossavinKey;
-use key::cipher_of;
+ghost use Rattle.std.specs.Prelude.{◌≡◌};
+ghost use Rattle.cipher_mode.specs.Outcome.{under, refusal};
+ghost use Rattle.cipher_mode.specs.Answer.{head_of};
+ghost use Rattle.luossavin.specs.Host.{head_in, reported, mode_in, host_block_call, host_mode_call};
+
+use cipher_mode::{Direction, Sm4CipherMode, answer};
+use key::{LuossavinKey, cipher_of};
 
 // The number, how many bytes were missing where that is refusal 9, 1 where the counter of a message came round, the number
 // of the key that stands, and how many bytes of the output are the result.
 #[repr(C)]
+#[derive(Drop)]
 pub struct LuossavinAnswer {
     pub number: u32,
     pub missing: u8,
@@ -36,7 +38,7 @@ const BAD_MODE: u32 = 7;
 
 // An answer that is a number alone, on a key with this number.
 pub(crate) fn numbered(number: u32, key: u16) -> LuossavinAnswer
-    ensures { λ r. ⌜ headIn r ≡ under key (refusal number) ⌝ }
+    ensures { head_in result ≡ under key (refusal number) }
 {
     LuossavinAnswer {
         number,
@@ -48,7 +50,7 @@ pub(crate) fn numbered(number: u32, key: u16) -> LuossavinAnswer
 }
 
 pub(crate) fn report(answer: answer::Answer) -> LuossavinAnswer
-    ensures { λ r. ⌜ headIn r ≡ headOf answer ⌝ }
+    ensures { head_in result ≡ head_of answer }
 {
     let ending = answer.ending;
     let came_round = answer.came_round as u8;
@@ -73,7 +75,7 @@ pub(crate) fn report(answer: answer::Answer) -> LuossavinAnswer
 
 // The record with the mode that it is used in.
 fn mode_in(key: LuossavinKey, mode: u32) -> Sm4CipherMode
-    ensures { λ r. ⌜ r ≡ modeIn key mode ⌝ }
+    ensures { result ≡ mode_in key mode }
 {
     Sm4CipherMode {
         cipher: cipher_of(key),
@@ -91,7 +93,7 @@ pub(crate) fn mode_call(
     iv: &[u8],
     out: &mut [u8],
 ) -> LuossavinAnswer
-    ensures { λ r. ⌜ reported r (now (out .exit)) ≡ hostModeCall direction mode key (now (aad .entry)) (now («data» .entry)) (now (iv .entry)) (now (out .entry)) ⌝ }
+    ensures { reported result out.new ≡ host_mode_call direction mode key aad.now «data».now iv.now out.old }
 {
     match mode {
         0..=4 => report(mode_in(key, mode).call(direction, aad, data, iv, out)),
@@ -99,29 +101,29 @@ pub(crate) fn mode_call(
     }
 }
 
-#[no_mangle]
+#[unsafe(no_mangle)]
 pub extern "C" fn luossavin_block_encrypt(
     key: LuossavinKey,
     block: &[u8],
     out: &mut [u8],
 ) -> LuossavinAnswer
-    ensures { λ r. ⌜ reported r (now (out .exit)) ≡ hostBlockCall Direction.Encrypt key (now (block .entry)) (now (out .entry)) ⌝ }
+    ensures { reported result out.new ≡ host_block_call Direction.Encrypt key block.now out.old }
 {
     report(cipher_of(key).call(Direction::Encrypt, block, out))
 }
 
-#[no_mangle]
+#[unsafe(no_mangle)]
 pub extern "C" fn luossavin_block_decrypt(
     key: LuossavinKey,
     block: &[u8],
     out: &mut [u8],
 ) -> LuossavinAnswer
-    ensures { λ r. ⌜ reported r (now (out .exit)) ≡ hostBlockCall Direction.Decrypt key (now (block .entry)) (now (out .entry)) ⌝ }
+    ensures { reported result out.new ≡ host_block_call Direction.Decrypt key block.now out.old }
 {
     report(cipher_of(key).call(Direction::Decrypt, block, out))
 }
 
-#[no_mangle]
+#[unsafe(no_mangle)]
 pub extern "C" fn luossavin_encrypt(
     mode: u32,
     key: LuossavinKey,
@@ -130,12 +132,12 @@ pub extern "C" fn luossavin_encrypt(
     iv: &[u8],
     out: &mut [u8],
 ) -> LuossavinAnswer
-    ensures { λ r. ⌜ reported r (now (out .exit)) ≡ hostModeCall Direction.Encrypt mode key (now (aad .entry)) (now («data» .entry)) (now (iv .entry)) (now (out .entry)) ⌝ }
+    ensures { reported result out.new ≡ host_mode_call Direction.Encrypt mode key aad.now «data».now iv.now out.old }
 {
     mode_call(Direction::Encrypt, mode, key, aad, data, iv, out)
 }
 
-#[no_mangle]
+#[unsafe(no_mangle)]
 pub extern "C" fn luossavin_decrypt(
     mode: u32,
     key: LuossavinKey,
@@ -144,7 +146,7 @@ pub extern "C" fn luossavin_decrypt(
     iv: &[u8],
     out: &mut [u8],
 ) -> LuossavinAnswer
-    ensures { λ r. ⌜ reported r (now (out .exit)) ≡ hostModeCall Direction.Decrypt mode key (now (aad .entry)) (now («data» .entry)) (now (iv .entry)) (now (out .entry)) ⌝ }
+    ensures { reported result out.new ≡ host_mode_call Direction.Decrypt mode key aad.now «data».now iv.now out.old }
 {
     mode_call(Direction::Decrypt, mode, key, aad, data, iv, out)
 }

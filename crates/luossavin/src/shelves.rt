@@ -1,12 +1,14 @@
 // A shelf, for a host: the calls of the crate `shelf` on a buffer that the host lends. The record that is found crosses as its
 // start and length, since no reference does.
-ghost use mathlib.Core.Path.{_≡_};
-ghost use Rattle·shelf.specs.Calls.{numberOfEnd, putCall, collectCall, findCall};
-ghost use Rattle·luossavin·specs.specs.Shelves.{shelfReported, shelvedReported};
+ghost use Rattle.std.specs.Prelude.{◌≡◌};
+ghost use Rattle.shelf.specs.Calls.{number_of_end, put_call, collect_call, find_call};
+ghost use Rattle.luossavin.specs.Shelves.{shelf_reported, shelved_reported};
+
 use shelf::Kept;
 
 // The number of how it ended, and how many bytes are used after the call: a refusal hands back the count that came.
 #[repr(C)]
+#[derive(Drop)]
 pub struct LuossavinShelf {
     pub number: u32,
     pub used: usize,
@@ -14,6 +16,7 @@ pub struct LuossavinShelf {
 
 // The number of how it ended, and where the record stands; both are 0 in a refusal.
 #[repr(C)]
+#[derive(Drop)]
 pub struct LuossavinShelved {
     pub number: u32,
     pub start: usize,
@@ -21,8 +24,8 @@ pub struct LuossavinShelved {
 }
 
 fn report_kept(kept: Kept) -> LuossavinShelf
-    ensures { λ r. ⌜ r .number ≡ numberOfEnd (kept .ended) ⌝ }
-    ensures { λ r. ⌜ r .used ≡ kept .used ⌝ }
+    ensures number_value { result.number ≡ number_of_end kept.ended }
+    ensures used_value { result.used ≡ kept.used }
 {
     let ended = kept.ended;
     LuossavinShelf {
@@ -31,7 +34,7 @@ fn report_kept(kept: Kept) -> LuossavinShelf
     }
 }
 
-#[no_mangle]
+#[unsafe(no_mangle)]
 pub extern "C" fn luossavin_shelf_put(
     shelf: &mut [u8],
     used: usize,
@@ -39,21 +42,21 @@ pub extern "C" fn luossavin_shelf_put(
     edition: u16,
     sealed: &[u8],
 ) -> LuossavinShelf
-    ensures { λ r. ⌜ shelfReported r (now (shelf .exit)) ≡ putCall (now (shelf .entry)) used job edition (now (sealed .entry)) ⌝ }
+    ensures { shelf_reported result shelf.new ≡ put_call shelf.old used job edition sealed.now }
 {
     report_kept(shelf::put(shelf, used, job, edition, sealed))
 }
 
-#[no_mangle]
+#[unsafe(no_mangle)]
 pub extern "C" fn luossavin_shelf_collect(shelf: &mut [u8], used: usize) -> LuossavinShelf
-    ensures { λ r. ⌜ shelfReported r (now (shelf .exit)) ≡ collectCall (now (shelf .entry)) used ⌝ }
+    ensures { shelf_reported result shelf.new ≡ collect_call shelf.old used }
 {
     report_kept(shelf::collect(shelf, used))
 }
 
-#[no_mangle]
+#[unsafe(no_mangle)]
 pub extern "C" fn luossavin_shelf_find(shelf: &[u8], used: usize, job: u32) -> LuossavinShelved
-    ensures { λ r. ⌜ shelvedReported r ≡ findCall (now (shelf .entry)) used job ⌝ }
+    ensures { shelved_reported result ≡ find_call shelf.now used job }
 {
     let found = shelf::find(shelf, used, job);
     let ended = found.ended;

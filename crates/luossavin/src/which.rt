@@ -1,19 +1,18 @@
 // Which of many labels a file opens under, for a host. The part of the lent buffer crosses as its start and length, since no
 // reference does.
-ghost use mathlib.Core.Path.{_≡_};
-ghost use Rattle·cipher_mode.specs.Outcome.{under};
-ghost use Rattle·luossavin·specs.specs.Host.{headIn};
-ghost use Rattle·luossavin·specs.specs.Which.{endedHead, foundReported, hostWhich};
-use crate::LuossavinAnswer;
-use crate::key::LuossavinKey;
-use crate::key::cipher_of;
-use crate::numbered;
-use crate::report;
+ghost use Rattle.std.specs.Prelude.{◌≡◌};
+ghost use Rattle.cipher_mode.specs.Outcome.{under};
+ghost use Rattle.luossavin.specs.Host.{head_in};
+ghost use Rattle.luossavin.specs.Which.{ended_head, found_reported, host_which};
+
+use crate::key::{LuossavinKey, cipher_of};
+use crate::{LuossavinAnswer, numbered, report};
 use cipher_mode::answer;
 use editions::Ended;
 
 // It stands for `Found`, which ends with an enum. `found` is 1 or 0, and place, start and length are 0 unless it is 1.
 #[repr(C)]
+#[derive(Drop)]
 pub struct LuossavinFound {
     pub answer: LuossavinAnswer,
     pub found: u32,
@@ -24,7 +23,7 @@ pub struct LuossavinFound {
 
 // How a question ended, as an answer; `none` is the number where the file opens under no candidate.
 pub(crate) fn report_ended(ended: Ended, key: u16, none: u32) -> LuossavinAnswer
-    ensures { λ r. ⌜ headIn r ≡ under key (endedHead none ended) ⌝ }
+    ensures { head_in result ≡ under key (ended_head none ended) }
 {
     match ended {
         Ended::Candidate => numbered(0, key),
@@ -34,7 +33,7 @@ pub(crate) fn report_ended(ended: Ended, key: u16, none: u32) -> LuossavinAnswer
     }
 }
 
-#[no_mangle]
+#[unsafe(no_mangle)]
 pub extern "C" fn luossavin_which(
     key: LuossavinKey,
     sealed: &[u8],
@@ -42,7 +41,7 @@ pub extern "C" fn luossavin_which(
     labels: &[u8],
     lengths: &[usize],
 ) -> LuossavinFound
-    ensures { λ r. ⌜ foundReported r ≡ hostWhich key (now (sealed .entry)) (now (iv .entry)) (now (labels .entry)) (now (lengths .entry)) ⌝ }
+    ensures { found_reported result ≡ host_which key sealed.now iv.now labels.now lengths.now }
 {
     let found = editions::which(cipher_of(key), sealed, iv, labels, lengths);
     let ended = found.ended;

@@ -1,30 +1,27 @@
 // Ranges and plans, for a host: the calls of the crate `ranges` on the host's record.
-ghost use mathlib.Core.Path.{_≡_};
-ghost use Rattle·cipher_mode.specs.Outcome.{under};
-ghost use Rattle·ranges.specs.ByPlan.{endedHead};
-ghost use Rattle·ranges.specs.Plan.{accepts};
-ghost use Rattle·luossavin·specs.specs.Host.{headIn, reported};
-ghost use Rattle·luossavin·specs.specs.Ranges.{makingNumber, plannedReported, hostPlanMake, hostCtrRange, hostCtrByPlan};
-use crate::LuossavinAnswer;
+ghost use Rattle.std.specs.Prelude.{◌≡◌};
+ghost use Rattle.cipher_mode.specs.Outcome.{under};
+ghost use Rattle.ranges.specs.ByPlan.{ended_head};
+ghost use Rattle.ranges.specs.Plan.{accepts};
+ghost use Rattle.luossavin.specs.Host.{head_in, reported};
+ghost use Rattle.luossavin.specs.Ranges.{making_number, planned_reported, host_plan_make, host_ctr_range, host_ctr_by_plan};
+
 use crate::in_pieces::direction_of;
-use crate::key::LuossavinKey;
-use crate::key::cipher_of;
-use crate::numbered;
-use crate::report;
+use crate::key::{LuossavinKey, cipher_of};
+use crate::{LuossavinAnswer, numbered, report};
 use cipher_mode::answer;
-use ranges::by_plan;
-use ranges::plan;
-use ranges::range;
+use ranges::{by_plan, plan, range};
 
 // A plan beside the answer of its making; it has no pieces where that is refused.
 #[repr(C)]
+#[derive(Drop)]
 pub struct LuossavinPlanned {
     pub answer: LuossavinAnswer,
     pub plan: plan::Plan,
 }
 
 fn number_of(making: plan::Making) -> u32
-    ensures { λ r. ⌜ r ≡ makingNumber making ⌝ }
+    ensures { result ≡ making_number making }
 {
     match making {
         plan::Making::Made => 0,
@@ -33,9 +30,9 @@ fn number_of(making: plan::Making) -> u32
     }
 }
 
-#[no_mangle]
+#[unsafe(no_mangle)]
 pub extern "C" fn luossavin_plan_make(n: usize, workers: usize) -> LuossavinPlanned
-    ensures { λ r. ⌜ plannedReported r ≡ hostPlanMake n workers ⌝ }
+    ensures { planned_reported result ≡ host_plan_make n workers }
 {
     let planned = plan::make(n, workers);
     let making = planned.making;
@@ -46,14 +43,14 @@ pub extern "C" fn luossavin_plan_make(n: usize, workers: usize) -> LuossavinPlan
     }
 }
 
-#[no_mangle]
+#[unsafe(no_mangle)]
 pub extern "C" fn luossavin_plan_accepts(plan: plan::Plan, n: usize) -> bool
-    ensures { λ r. ⌜ r ≡ accepts plan n ⌝ }
+    ensures { result ≡ accepts plan n }
 {
     plan::accepts(plan, n)
 }
 
-#[no_mangle]
+#[unsafe(no_mangle)]
 pub extern "C" fn luossavin_ctr_range(
     key: LuossavinKey,
     decrypt: bool,
@@ -62,13 +59,13 @@ pub extern "C" fn luossavin_ctr_range(
     data: &[u8],
     out: &mut [u8],
 ) -> LuossavinAnswer
-    ensures { λ r. ⌜ reported r (now (out .exit)) ≡ hostCtrRange key decrypt (now (iv .entry)) offset (now («data» .entry)) (now (out .entry)) ⌝ }
+    ensures { reported result out.new ≡ host_ctr_range key decrypt iv.now offset «data».now out.old }
 {
     report(range::range(cipher_of(key), direction_of(decrypt), iv, offset, data, out))
 }
 
 fn report_ended(ended: by_plan::Ended, key: u16) -> LuossavinAnswer
-    ensures { λ r. ⌜ headIn r ≡ under key (endedHead ended) ⌝ }
+    ensures { head_in result ≡ under key (ended_head ended) }
 {
     match ended {
         by_plan::Ended::Done(n) => report(answer::done(key, n)),
@@ -77,7 +74,7 @@ fn report_ended(ended: by_plan::Ended, key: u16) -> LuossavinAnswer
     }
 }
 
-#[no_mangle]
+#[unsafe(no_mangle)]
 pub extern "C" fn luossavin_ctr_by_plan(
     key: LuossavinKey,
     decrypt: bool,
@@ -86,7 +83,7 @@ pub extern "C" fn luossavin_ctr_by_plan(
     data: &[u8],
     out: &mut [u8],
 ) -> LuossavinAnswer
-    ensures { λ r. ⌜ reported r (now (out .exit)) ≡ hostCtrByPlan key decrypt (now (iv .entry)) plan (now («data» .entry)) (now (out .entry)) ⌝ }
+    ensures { reported result out.new ≡ host_ctr_by_plan key decrypt iv.now plan «data».now out.old }
 {
     let done = by_plan::by_plan(cipher_of(key), direction_of(decrypt), iv, plan, data, out);
     let ended = done.ended;

@@ -1,11 +1,11 @@
 -- The differences that `all_padding` adds up come to 0 exactly where the last n bytes of a block all hold n.
-use Rattle·block.proofs.Base.{_*_, _+_, _-_, _/_, _<_, _^_, _≤_, suc, zero, ℕ, _∙_, _≡_, refl, sym, _&&_, List, [], _∷_, add-one, arith}
-use Rattle·block.proofs.Base.{eq-eqb, eqb-true, xor-lt, xor-self, eqb, drop, getD, length, length-drop, replicate, drop-cons}
+use Rattle.block.proofs.Base.{◌*◌, ◌+◌, ◌-◌, ◌/◌, ◌<◌, ◌^◌, ◌≤◌, suc, zero, ℕ, ◌∙◌, ◌≡◌, refl, sym, ◌&&◌, List, [], ◌∷◌, add-one, arith}
+use Rattle.block.proofs.Base.{eq-eqb, eqb-true, xor_lt, xor_self, eqb, drop, get_or, length, length-drop, replicate, drop-cons}
 use lib.Seq.{drop-length}
-use Rattle·block.specs.Same.{same}
-use Rattle·block.specs.Xor.{_⊕_}
-use Rattle·block.proofs.Same.{and-left, and-right, test-iff}
-use Rattle·block.proofs.Xor.{xor-same}
+use Rattle.block.specs.Same.{same}
+use Rattle.block.specs.Xor.{◌⊕◌}
+use Rattle.block.proofs.Same.{and_left, and_right, test_iff}
+use Rattle.block.proofs.Xor.{xor_same}
 
 -- what the byte x at the place i adds, where the last n of sixteen bytes count
 abbrev pub difference : ℕ → ℕ → ℕ → ℕ
@@ -21,57 +21,57 @@ times-le zero y h = omega arith
 times-le (suc zero) y h = omega arith
 times-le (suc (suc q)) y h = absurd (omega arith)
 
-pub difference-le : (n i x : ℕ) → n ≤ 16 → i < 16 → x < 256 → difference n i x ≤ 255
-difference-le n i x hn hi hx =
-    let s : (x ⊕ n) < 2 ^ 8 = xor-lt 8 x n hx (omega arith) in
+pub difference_le : (n i x : ℕ) → n ≤ 16 → i < 16 → x < 256 → difference n i x ≤ 255
+difference_le n i x hn hi hx =
+    let s : (x ⊕ n) < 2 ^ 8 = xor_lt 8 x n hx (omega arith) in
     omega (arith, times-le ((i + n) / 16) (x ⊕ n) (omega arith))
 
 -- a turn adds the first of what is left
-pub difference-turn : (n i : ℕ) (l : List ℕ) → i < length l
-    → difference n i (getD l i 0) + differences n (i + 1) (drop (i + 1) l) ≡ differences n i (drop i l)
+pub difference_turn : (n i : ℕ) (l : List ℕ) → i < length l
+    → difference n i (get_or l i 0) + differences n (i + 1) (drop (i + 1) l) ≡ differences n i (drop i l)
 unfolding differences
-difference-turn n i l h = rw (add-one, drop-cons l i 0)
+difference_turn n i l h = rw (add-one, drop-cons l i 0)
 
-pub none-left : (n : ℕ) (l : List ℕ) → differences n (length l) (drop (length l) l) ≡ 0
+pub none_left : (n : ℕ) (l : List ℕ) → differences n (length l) (drop (length l) l) ≡ 0
 unfolding differences
-none-left n l = rw drop-length
+none_left n l = rw drop-length
 
 -- the bytes before the last n add nothing
-none-before : (n i k : ℕ) (l : List ℕ) → i + k + n ≡ 16 → differences n i l ≡ differences n (i + k) (drop k l)
+none_before : (n i k : ℕ) (l : List ℕ) → i + k + n ≡ 16 → differences n i l ≡ differences n (i + k) (drop k l)
 unfolding differences
-none-before n i zero l h = let e : i + 0 ≡ i = omega arith in rw e
-none-before n i (suc k) [] h = refl
-none-before n i (suc k) (x ∷ l) h =
+none_before n i zero l h = let e : i + 0 ≡ i = omega arith in rw e
+none_before n i (suc k) [] h = refl
+none_before n i (suc k) (x ∷ l) h =
     let q : (i + n) / 16 ≡ 0 = omega arith in
     let e : i + suc k ≡ suc i + k = omega arith in
     let z : difference n i x + differences n (suc i) l ≡ differences n (suc i) l = rw q (omega arith) in
-    rw (z, e) (none-before n (suc i) k l (omega arith))
+    rw (z, e) (none_before n (suc i) k l (omega arith))
 
-xor-test : (x n : ℕ) → eqb (x ⊕ n) 0 ≡ eqb x n
-xor-test x n =
-    test-iff (eqb (x ⊕ n) 0) (eqb x n) (λ e. eq-eqb x n (xor-same x n n (eqb-true (x ⊕ n) 0 e ∙ sym (xor-self n))))
-    (λ e. eq-eqb (x ⊕ n) 0 (rw (eqb-true x n e) (xor-self n)))
+xor_test : (x n : ℕ) → eqb (x ⊕ n) 0 ≡ eqb x n
+xor_test x n =
+    test_iff (eqb (x ⊕ n) 0) (eqb x n) (λ e. eq-eqb x n (xor_same x n n (eqb-true (x ⊕ n) 0 e ∙ sym (xor_self n))))
+    (λ e. eq-eqb (x ⊕ n) 0 (rw (eqb-true x n e) (xor_self n)))
 
-sum-test : (a b : ℕ) → eqb (a + b) 0 ≡ (eqb a 0 && eqb b 0)
-sum-test a b =
-    test-iff (eqb (a + b) 0) (eqb a 0 && eqb b 0)
+sum_test : (a b : ℕ) → eqb (a + b) 0 ≡ (eqb a 0 && eqb b 0)
+sum_test a b =
+    test_iff (eqb (a + b) 0) (eqb a 0 && eqb b 0)
     (λ e. let z = eqb-true (a + b) 0 e in rw (eq-eqb a 0 (omega arith), eq-eqb b 0 (omega arith)))
     (λ e.
-    let x = eqb-true a 0 (and-left (eqb a 0) (eqb b 0) e) in
-    let y = eqb-true b 0 (and-right (eqb a 0) (eqb b 0) e) in
+    let x = eqb-true a 0 (and_left (eqb a 0) (eqb b 0) e) in
+    let y = eqb-true b 0 (and_right (eqb a 0) (eqb b 0) e) in
     eq-eqb (a + b) 0 (omega arith))
 
 -- each of the last n adds its difference to n
-all-hold : (n i : ℕ) (l : List ℕ) → n ≤ 16 → 16 ≤ i + n → i + length l ≡ 16 → eqb (differences n i l) 0 ≡ same l (replicate (length l) n)
+all_hold : (n i : ℕ) (l : List ℕ) → n ≤ 16 → 16 ≤ i + n → i + length l ≡ 16 → eqb (differences n i l) 0 ≡ same l (replicate (length l) n)
 unfolding differences same
-all-hold n i [] hn hi hl = refl
-all-hold n i (x ∷ l) hn hi hl =
+all_hold n i [] hn hi hl = refl
+all_hold n i (x ∷ l) hn hi hl =
     let q : difference n i x ≡ x ⊕ n = let o : (i + n) / 16 ≡ 1 = omega arith in rw o (omega arith) in
-    rw (q, sum-test (x ⊕ n) (differences n (suc i) l), xor-test x n, all-hold n (suc i) l hn (omega arith) (omega arith))
+    rw (q, sum_test (x ⊕ n) (differences n (suc i) l), xor_test x n, all_hold n (suc i) l hn (omega arith) (omega arith))
 
-pub padding-test : (n : ℕ) (l : List ℕ) → n ≤ 16 → length l ≡ 16 → eqb (differences n 0 l) 0 ≡ same (drop (16 - n) l) (replicate n n)
-padding-test n l hn hl =
+pub padding_test : (n : ℕ) (l : List ℕ) → n ≤ 16 → length l ≡ 16 → eqb (differences n 0 l) 0 ≡ same (drop (16 - n) l) (replicate n n)
+padding_test n l hn hl =
     let k = 16 - n in
     let m : length (drop k l) ≡ n = rw length-drop (omega arith) in
     let z : 0 + k ≡ k = omega arith in
-    rw (none-before n 0 k l (omega arith), z) (rw m at (all-hold n k (drop k l) hn (omega arith) (rw length-drop (omega arith))))
+    rw (none_before n 0 k l (omega arith), z) (rw m at (all_hold n k (drop k l) hn (omega arith) (rw length-drop (omega arith))))

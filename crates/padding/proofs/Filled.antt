@@ -1,8 +1,8 @@
 -- The padding: it fills the last block, wherever full blocks were cut off before.
-use Rattle·block.proofs.Base.{_%_, _*_, _+_, _-_, _/_, _<_, _≤_, suc, zero, ℕ, _∙_, _≡_, List, _++_, arith, drop, length, length-append}
-use Rattle·block.proofs.Base.{length-drop, length-replicate, replicate, take, drop-append-le, take-length}
-use Rattle·block.proofs.Tails.{tailed, tail-is}
-use Rattle·padding·specs.specs.Padding.{padding, padded}
+use Rattle.block.proofs.Base.{◌%◌, ◌*◌, ◌+◌, ◌-◌, ◌/◌, ◌<◌, ◌≤◌, suc, zero, ℕ, ◌∙◌, ◌≡◌, List, ◌++◌, arith, drop, length, length-append}
+use Rattle.block.proofs.Base.{length-drop, length-replicate, replicate, take, drop-append-le, take-length}
+use Rattle.block.proofs.Tails.{tailed, tail_is}
+use Rattle.padding.specs.Padding.{padding, padded}
 
 pub length-padded : (d : List ℕ) → length (padded d) ≡ 16 * (length d / 16 + 1)
 length-padded d = length-append d (padding (length d)) ∙ rw (length-replicate (16 - length d % 16) (16 - length d % 16)) (omega arith)
@@ -24,4 +24,4 @@ pub rest-padded : (d : List ℕ) (at : ℕ) → at ≤ length d → at % 16 ≡ 
     → take 16 (padded (tailed at d)) ≡ take 16 (drop at (padded d))
 rest-padded d at h m l =
     let n : length (drop at d) % 16 ≡ length d % 16 = rw length-drop (omega arith) in
-    rw (tail-is d at, drop-append-le at d (padding (length d)) h, n)
+    rw (tail_is d at, drop-append-le at d (padding (length d)) h, n)

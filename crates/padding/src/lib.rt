@@ -1,14 +1,15 @@
 // The padding of Cbc, in `cbc_encrypt` and `cbc_decrypt` of libsm's `cipher_mode.rs`: put behind a message, and decided over.
-ghost use mathlib.Core.Path.{_≡_};
-ghost use Prim.Native.Nat.{_-_, _<_, _≤_};
-ghost use lib.ListN.{length, drop, replicate};
-ghost use Rattle·block.specs.Same.{same};
-ghost use Rattle·padding·specs.specs.Padding.{padded, unpadded};
+
+#![tactic(auto)]
+
+ghost use Rattle.std.specs.Prelude.{◌≡◌, ◌-◌, ◌<◌, ◌≤◌, length, drop, replicate};
+ghost use Rattle.block.specs.Same.{same};
+ghost use Rattle.padding.specs.Padding.{padded, unpadded};
 
 // A rest shorter than a block, with its padding.
 pub fn pad(rest: &[u8]) -> [u8; 16]
-    requires { ⌜ length (now rest) < 16 ⌝ }
-    ensures { λ r. ⌜ r ≡ padded (now (rest .entry)) ⌝ }
+    requires { length rest.now < 16 }
+    ensures { result ≡ padded rest.now }
 {
     let mut last = [(16 - rest.len()) as u8; 16];
     let mut i: usize = 0;
@@ -21,6 +22,7 @@ pub fn pad(rest: &[u8]) -> [u8; 16]
 
 // What opening answers: the length of the message, that the last byte names no padding, or that another byte of the padding
 // that it names differs from it.
+#[derive(Drop)]
 pub enum Opened {
     Done(usize),
     InvalidLastU8,
@@ -29,8 +31,8 @@ pub enum Opened {
 
 // Whether the last `n` bytes of a block all hold `n`. All sixteen bytes are read, and no branch is taken on what they hold.
 fn all_padding(last: [u8; 16], n: usize) -> bool
-    requires { ⌜ n ≤ 16 ⌝ }
-    ensures { λ r. ⌜ r ≡ same (drop (16 - n) last) (replicate n n) ⌝ }
+    requires { n ≤ 16 }
+    ensures { result ≡ same (drop (16 - n) last) (replicate n n) }
 {
     let mut differ: usize = 0;
     for i in 0..16 {
@@ -43,7 +45,7 @@ fn all_padding(last: [u8; 16], n: usize) -> bool
 
 // The decision over the padding: how much of the last decrypted block belongs to the message.
 pub fn unpad(last: [u8; 16]) -> Opened
-    ensures { λ r. ⌜ r ≡ unpadded last ⌝ }
+    ensures { result ≡ unpadded last }
 {
     let b = last[15];
     match b {

@@ -1,9 +1,9 @@
 -- What is known where the checks of a piece or of an end passed, and that a state that stands at 0 passes.
-use Rattle·pieces·proofs.proofs.Names.{Bool, Direction, Ended, ErrorBlockSize, Fits, Hashable, KeyAnswer, Passed, Refused, Retired, TooLong}
-use Rattle·pieces·proofs.proofs.Names.{WrongIv, WrongNumber, _+_, _≡_, _≤_, arith, both, cond, eq-eqb, eqb, eqb-true, false, gcmStarting}
-use Rattle·pieces·proofs.proofs.Names.{key-and-iv-passed, keyAndIv, label-passed, le-ltb, let-through, limit, ltb, ltb-false, not, refl}
-use Rattle·pieces·proofs.proofs.Names.{refuse, running, sixteen, standing, tagged, true, w64, writing, wrongIv, ℕ}
-use Rattle·cipher_mode.specs.declared.CipherMode.the-variants.{Gcm}
+use Rattle.pieces.proofs.Names.{Bool, Direction, Ended, ErrorBlockSize, Fits, Hashable, KeyAnswer, Passed, Refused, Retired, TooLong}
+use Rattle.pieces.proofs.Names.{WrongIv, WrongNumber, ◌+◌, ◌≡◌, ◌≤◌, arith, both, cond, eq-eqb, eqb, eqb-true, false, gcm_starting}
+use Rattle.pieces.proofs.Names.{key-and-iv_passed, key_and_iv, label_passed, le-ltb, let_through, limit, ltb, ltb-false, not, refl}
+use Rattle.pieces.proofs.Names.{refuse, running, sixteen, standing, tagged, true, w64, writing, wrong_iv, ℕ}
+use Rattle.cipher_mode.specs.declared.CipherMode.TheVariants.{Gcm}
 
 -- a state that runs, and n bytes more
 pub record Runs (mark label total n : ℕ) : Type 0 where
@@ -12,23 +12,23 @@ pub record Runs (mark label total n : ℕ) : Type 0 where
   pub within : total + n ≤ limit
 
 -- so no sum wraps, and both lengths can be hashed
-pub sum-fits : {mark label total n : ℕ} → Runs mark label total n → Fits w64 (total + n)
-sum-fits r = record { fits = omega (arith, r .within) }
+pub sum_fits : {mark label total n : ℕ} → Runs mark label total n → Fits w64 (total + n)
+sum_fits r = record { fits = omega (arith, r.within) }
 
-pub both-hashable : {mark label total : ℕ} → Runs mark label total 0 → Hashable label × Hashable total
-both-hashable r = (omega (arith, r .labelled), omega (arith, r .within))
+pub both_hashable : {mark label total : ℕ} → Runs mark label total 0 → Hashable label × Hashable total
+both_hashable r = (omega (arith, r.labelled), omega (arith, r.within))
 
 -- an IV that Gcm takes, and a label within the limit
 pub record GcmStarts (iv label : ℕ) : Type 0 where
-  pub taken : wrongIv Gcm iv ≡ false
+  pub taken : wrong_iv Gcm iv ≡ false
   pub labelled : label ≤ limit
 
-pub starting-passed : (a : KeyAnswer) (retired : Bool) (dir : Direction) (iv label : ℕ)
-    → gcmStarting a retired dir iv label ≡ Passed → GcmStarts iv label
-unfolding gcmStarting
-starting-passed a retired dir iv label e =
-    let from-key = both (keyAndIv a retired dir Gcm iv) _ e in
-    record { taken = key-and-iv-passed a retired dir Gcm iv (from-key .0) .iv-size; labelled = label-passed label (from-key .1) }
+pub starting_passed : (a : KeyAnswer) (retired : Bool) (dir : Direction) (iv label : ℕ)
+    → gcm_starting a retired dir iv label ≡ Passed → GcmStarts iv label
+unfolding gcm_starting
+starting_passed a retired dir iv label e =
+    let from_key = both (key_and_iv a retired dir Gcm iv) _ e in
+    record { taken = (key-and-iv_passed a retired dir Gcm iv from_key.0).iv-size; labelled = label_passed label from_key.1 }
 
 -- every mark but 0 is refused
 not-refused : (t a b d f g : Bool)
@@ -37,46 +37,46 @@ not-refused : (t a b d f g : Bool)
     ≡ Passed → t ≡ true
 not-refused true a b d f g e = refl
 not-refused false a b d f g e =
-    let third = let-through d _ _ (let-through b _ _ (let-through a _ _ e .rest) .rest) .rest in
-    let last = let-through g _ _ (let-through f _ _ third .rest) .rest in
-    let z : _≡_ {A = ℕ} 0 1 = cc in absurd (omega arith)
+    let third = (let_through d _ _ (let_through b _ _ (let_through a _ _ e).rest).rest).rest in
+    let last = (let_through g _ _ (let_through f _ _ third).rest).rest in
+    let z : ◌≡◌ {A = ℕ} 0 1 = cc in absurd (omega arith)
 
 module _ (mark label total : ℕ) where
-  pub running-passed : (n : ℕ) → running mark label total n ≡ Passed → Runs mark label total n
+  pub running_passed : (n : ℕ) → running mark label total n ≡ Passed → Runs mark label total n
   unfolding running standing
-  running-passed n e =
+  running_passed n e =
       let from-mark = both (standing mark) _ e in
-      let from-label = let-through (ltb limit label) _ _ (from-mark .1) in
+      let from-label = let_through (ltb limit label) _ _ from-mark.1 in
       record {
         stands =
             eqb-true mark 0
-            (not-refused (eqb mark 0) (eqb mark 1) (eqb mark 5) (eqb mark 10) (eqb mark 13) (eqb mark 14) (from-mark .0));
-        labelled = ltb-false limit label (from-label .fails);
-        within = ltb-false limit (total + n) (let-through (ltb limit (total + n)) _ _ (from-label .rest) .fails);
+            (not-refused (eqb mark 0) (eqb mark 1) (eqb mark 5) (eqb mark 10) (eqb mark 13) (eqb mark 14) from-mark.0);
+        labelled = ltb-false limit label from-label.fails;
+        within = ltb-false limit (total + n) (let_through (ltb limit (total + n)) _ _ from-label.rest).fails;
       }
 
-  pub writing-passed : (n written room : ℕ) → writing mark label total n written room ≡ Passed → Runs mark label total n × (written ≤ room)
+  pub writing_passed : (n written room : ℕ) → writing mark label total n written room ≡ Passed → Runs mark label total n × (written ≤ room)
   unfolding writing
-  writing-passed n written room e =
+  writing_passed n written room e =
       let from-state = both (running mark label total n) _ e in
-      (running-passed n (from-state .0), ltb-false room written (let-through (ltb room written) _ _ (from-state .1) .fails))
+      (running_passed n from-state.0, ltb-false room written (let_through (ltb room written) _ _ from-state.1).fails)
 
-  pub tagged-passed : (tag : ℕ) → tagged mark label total tag ≡ Passed → Runs mark label total 0 × (tag ≡ 16)
+  pub tagged_passed : (tag : ℕ) → tagged mark label total tag ≡ Passed → Runs mark label total 0 × (tag ≡ 16)
   unfolding tagged
-  tagged-passed tag e =
+  tagged_passed tag e =
       let from-state = both (running mark label total 0) _ e in
-      (running-passed 0 (from-state .0), sixteen tag (let-through (not (eqb tag 16)) _ _ (from-state .1) .fails))
+      (running_passed 0 from-state.0, sixteen tag (let_through (not (eqb tag 16)) _ _ from-state.1).fails)
 
 -- and the other way round
 module _ (label total : ℕ) (labelled : label ≤ limit) where
-  pub running-passes : (n : ℕ) → total + n ≤ limit → running 0 label total n ≡ Passed
+  pub running_passes : (n : ℕ) → total + n ≤ limit → running 0 label total n ≡ Passed
   unfolding running standing
-  running-passes n h = rw (le-ltb limit label labelled, le-ltb limit (total + n) h)
+  running_passes n h = rw (le-ltb limit label labelled, le-ltb limit (total + n) h)
 
-  pub writing-passes : (n written room : ℕ) → total + n ≤ limit → written ≤ room → writing 0 label total n written room ≡ Passed
+  pub writing_passes : (n written room : ℕ) → total + n ≤ limit → written ≤ room → writing 0 label total n written room ≡ Passed
   unfolding writing
-  writing-passes n written room h k = rw (running-passes n h, le-ltb room written k)
+  writing_passes n written room h k = rw (running_passes n h, le-ltb room written k)
 
-  pub tagged-passes : (tag : ℕ) → total + 0 ≤ limit → tag ≡ 16 → tagged 0 label total tag ≡ Passed
+  pub tagged_passes : (tag : ℕ) → total + 0 ≤ limit → tag ≡ 16 → tagged 0 label total tag ≡ Passed
   unfolding tagged
-  tagged-passes tag h k = rw (running-passes 0 h, eq-eqb tag 16 k)
+  tagged_passes tag h k = rw (running_passes 0 h, eq-eqb tag 16 k)

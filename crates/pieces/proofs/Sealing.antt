@@ -1,6 +1,6 @@
 -- No text of nothing.
-use Rattle·pieces·proofs.proofs.Names.{Gctr, List, [], _≡_, arith, chain-rest, gcmNext, streamMode, textOf, ℕ}
+use Rattle.pieces.proofs.Names.{Gctr, List, [], ◌≡◌, arith, chain-rest, gcm_next, stream_mode, text_of, ℕ}
 
-pub no-text : (rk j : List ℕ) → textOf rk j [] ≡ []
-unfolding textOf
-no-text rk j = chain-rest (streamMode Gctr rk) (gcmNext j) [] (omega arith)
+pub no_text : (rk j : List ℕ) → text_of rk j [] ≡ []
+unfolding text_of
+no_text rk j = chain-rest (stream_mode Gctr rk) (gcm_next j) [] (omega arith)

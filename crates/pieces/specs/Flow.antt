@@ -1,44 +1,40 @@
 -- Key stream in pieces. The two modes whose next state is the next counter, whatever the text is, go on from any byte.
-use Prim.Native.Nat.{ℕ, _-_}
-use mathlib.Core.Bool.{cond}
-use mathlib.Core.List.{List, _++_}
-use lib.Dec.{ltb}
-use lib.ListN.{length, drop}
-use Rattle·block.specs.Xor.{xors}
-use Rattle·cipher.specs.Sm4.{encryptBlock}
-use Rattle·counter.specs.Counter.{ctrNext, gcmNext}
-use Rattle·walk.specs.Walk.{Mode, chain, endState}
-use Rattle·stream.specs.Stream.{streamMode}
-use Rattle·stream.specs.declared.Kind.{Kind}
-use Rattle·stream.specs.declared.Kind.the-variants.{Ctr as Ctr·kind, Gctr as Gctr·kind}
-use Rattle·pieces·specs.specs.declared.flow.Counting.{Counting}
-use Rattle·pieces·specs.specs.declared.flow.Counting.the-variants.{Ctr, Gcm}
-use Rattle·pieces·specs.specs.declared.flow.Flow.{Flow}
+use Rattle.std.specs.Prelude.{ℕ, ◌-◌, cond, List, ◌++◌, ltb, length, drop}
+use Rattle.block.specs.Xor.{xors}
+use Rattle.cipher.specs.Sm4.{encrypt_block}
+use Rattle.counter.specs.Counter.{ctr_next, gcm_next}
+use Rattle.walk.specs.Walk.{Mode, chain, end_state}
+use Rattle.stream.specs.Stream.{stream_mode}
+use Rattle.stream.specs.declared.Kind.{Kind}
+use Rattle.stream.specs.declared.Kind.TheVariants.{Ctr as CtrKind, Gctr as GctrKind}
+use Rattle.pieces.specs.declared.flow.Counting.{Counting}
+use Rattle.pieces.specs.declared.flow.Counting.TheVariants.{Ctr, Gcm}
+use Rattle.pieces.specs.declared.flow.Flow.{Flow}
 
-abbrev pub kindOf : Counting → Kind
-kindOf Ctr = Ctr·kind
-kindOf Gcm = Gctr·kind
+abbrev pub kind_of : Counting → Kind
+kind_of Ctr = CtrKind
+kind_of Gcm = GctrKind
 
-abbrev pub nextCounter : Counting → List ℕ → List ℕ
-nextCounter Ctr s = ctrNext s
-nextCounter Gcm s = gcmNext s
+abbrev pub next_counter : Counting → List ℕ → List ℕ
+next_counter Ctr s = ctr_next s
+next_counter Gcm s = gcm_next s
 
 -- the walk of the single call
-abbrev pub flowMode : Counting → List ℕ → Mode
-flowMode c rk = streamMode (kindOf c) rk
+abbrev pub flow_mode : Counting → List ℕ → Mode
+flow_mode c rk = stream_mode (kind_of c) rk
 
 -- the flow at the counter s
-abbrev pub flowAt : List ℕ → List ℕ → Flow
-flowAt rk s = record { counter = s; pad = encryptBlock rk s }
+abbrev pub flow_at : List ℕ → List ℕ → Flow
+flow_at rk s = record { counter = s; pad = encrypt_block rk s }
 
 -- after the text d, from the counter s on: the counter of the block that is begun, and its cipher
-unfoldable pub flowAfter : Counting → List ℕ → List ℕ → List ℕ → Flow
-flowAfter c rk s d = flowAt rk (endState (flowMode c rk) s d)
+unfoldable pub flow_after : Counting → List ℕ → List ℕ → List ℕ → Flow
+flow_after c rk s d = flow_at rk (end_state (flow_mode c rk) s d)
 
 -- what the text e gives from place p of the begun block on: the rest of the pad, and then the stream from the next counter on
-unfoldable pub flowText : Counting → List ℕ → Flow → ℕ → List ℕ → List ℕ
-flowText c rk f p e = xors e (drop p (f .pad)) ++ chain (flowMode c rk) (nextCounter c (f .counter)) (drop (16 - p) e)
+unfoldable pub flow_text : Counting → List ℕ → Flow → ℕ → List ℕ → List ℕ
+flow_text c rk f p e = xors e (drop p f.pad) ++ chain (flow_mode c rk) (next_counter c f.counter) (drop (16 - p) e)
 
 -- where the flow is after it
-unfoldable pub flowNext : Counting → List ℕ → Flow → ℕ → List ℕ → Flow
-flowNext c rk f p e = cond (ltb (length e) (16 - p)) f (flowAfter c rk (nextCounter c (f .counter)) (drop (16 - p) e))
+unfoldable pub flow_next : Counting → List ℕ → Flow → ℕ → List ℕ → Flow
+flow_next c rk f p e = cond (ltb (length e) (16 - p)) f (flow_after c rk (next_counter c f.counter) (drop (16 - p) e))

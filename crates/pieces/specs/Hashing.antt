@@ -1,39 +1,37 @@
 -- GCM's hash in pieces. Of the block that is begun only the bytes before the place p count.
-use Prim.Native.Nat.{ℕ, _*_, _/_}
-use mathlib.Core.List.{List, [], _∷_, _++_}
-use lib.ListN.{length, take, drop, replicate}
-use Rattle·block.specs.BigEndian.{numberOf, bytesOf}
-use Rattle·ghash.specs.Ghash.{blocks, lengthBlock, hashFrom, ghash}
-use Rattle·pieces·specs.specs.declared.hashing.Hashing.{Hashing}
+use Rattle.std.specs.Prelude.{ℕ, ◌*◌, ◌/◌, List, [], ◌∷◌, ◌++◌, length, take, drop, replicate}
+use Rattle.block.specs.BigEndian.{number_of, bytes_of}
+use Rattle.ghash.specs.Ghash.{blocks, length_block, hash_from, ghash}
+use Rattle.pieces.specs.declared.hashing.Hashing.{Hashing}
 
 -- the full blocks of a list of bytes, and the bytes behind them
-abbrev pub fullPart : List ℕ → List ℕ
-fullPart c = take (16 * (length c / 16)) c
+abbrev pub full_part : List ℕ → List ℕ
+full_part c = take (16 * (length c / 16)) c
 
-abbrev pub begunPart : List ℕ → List ℕ
-begunPart c = drop (16 * (length c / 16)) c
+abbrev pub begun_part : List ℕ → List ℕ
+begun_part c = drop (16 * (length c / 16)) c
 
 -- the first sixteen bytes, zeros where the list ends
-unfoldable pub filledUp : List ℕ → List ℕ
-filledUp c = take 16 (c ++ replicate 16 0)
+unfoldable pub filled_up : List ℕ → List ℕ
+filled_up c = take 16 (c ++ replicate 16 0)
 
 -- after the text c, from the hash y on under the key h: the hash of its full blocks, and what is begun
-unfoldable pub hashAfter : List ℕ → List ℕ → List ℕ → Hashing
-hashAfter h y c = record {
+unfoldable pub hash_after : List ℕ → List ℕ → List ℕ → Hashing
+hash_after h y c = record {
   h = h;
-  y = bytesOf 16 (hashFrom (numberOf h) (numberOf y) (blocks (fullPart c)));
-  held = filledUp (begunPart c);
+  y = bytes_of 16 (hash_from (number_of h) (number_of y) (blocks (full_part c)));
+  held = filled_up (begun_part c);
 }
 
 -- after the label and the text c, from the start
-unfoldable pub hashOf : ℕ → List ℕ → List ℕ → Hashing
-hashOf h label c = hashAfter (bytesOf 16 h) (bytesOf 16 (ghash h (blocks label))) c
+unfoldable pub hash_of : ℕ → List ℕ → List ℕ → Hashing
+hash_of h label c = hash_after (bytes_of 16 h) (bytes_of 16 (ghash h (blocks label))) c
 
 -- after the text e, where p bytes of a block were held
-unfoldable pub hashNext : Hashing → ℕ → List ℕ → Hashing
-hashNext g p e = hashAfter (g .h) (g .y) (take p (g .held) ++ e)
+unfoldable pub hash_next : Hashing → ℕ → List ℕ → Hashing
+hash_next g p e = hash_after g.h g.y (take p g.held ++ e)
 
 -- at the end of a text, where p bytes of a block are held: that block and then the length block, for these two lengths
-unfoldable pub hashEnd : Hashing → ℕ → ℕ → ℕ → List ℕ
-hashEnd g p label text =
-    bytesOf 16 (hashFrom (numberOf (g .h)) (numberOf (g .y)) (blocks (take p (g .held)) ++ (lengthBlock label text ∷ [])))
+unfoldable pub hash_end : Hashing → ℕ → ℕ → ℕ → List ℕ
+hash_end g p label text =
+    bytes_of 16 (hash_from (number_of g.h) (number_of g.y) (blocks (take p g.held) ++ (length_block label text ∷ [])))

@@ -1,22 +1,18 @@
 // What is refused of a piece and of an end, by the two words of the definitions: `and_then`, `refuse`. Whatever numbers a host hands in,
 // no sum wraps.
-ghost use mathlib.Core.Path.{_≡_};
-ghost use Prim.Native.Nat.{_+_};
-ghost use lib.Dec.{ltb};
-ghost use Rattle·cipher_mode.specs.Checks.{refuse, andThen};
-ghost use Rattle·cipher_mode.specs.Tables.{limit};
-ghost use Rattle·pieces·specs.specs.Checks.{gcmStarting, standing, running, writing, tagged};
+ghost use Rattle.std.specs.Prelude.{◌≡◌, ◌+◌, ltb};
+ghost use Rattle.cipher_mode.specs.Checks.{refuse, and_then};
+ghost use Rattle.cipher_mode.specs.Tables.{limit};
+ghost use Rattle.pieces.specs.Checks.{gcm_starting, standing, running, writing, tagged};
+
 use crate::flow;
-use cipher_mode::CipherMode;
-use cipher_mode::Direction;
-use cipher_mode::KeyAnswer;
 use cipher_mode::answer::Refusal;
-use cipher_mode::checks::Checked;
-use cipher_mode::checks::LIMIT;
+use cipher_mode::checks::{Checked, LIMIT};
+use cipher_mode::{CipherMode, Direction, KeyAnswer};
 
 // One stage and then the next.
 pub fn and_then(first: Checked, next: Checked) -> Checked
-    ensures { λ r. ⌜ r ≡ andThen first next ⌝ }
+    ensures { result ≡ and_then first next }
 {
     let Checked::Passed = first else {
         return first;
@@ -26,7 +22,7 @@ pub fn and_then(first: Checked, next: Checked) -> Checked
 
 // The refusal where the test holds, and otherwise what comes next.
 pub fn refuse(test: bool, refusal: Refusal, next: Checked) -> Checked
-    ensures { λ r. ⌜ r ≡ refuse test refusal next ⌝ }
+    ensures { result ≡ refuse test refusal next }
 {
     if test {
         return Checked::Refused(refusal);
@@ -36,7 +32,7 @@ pub fn refuse(test: bool, refusal: Refusal, next: Checked) -> Checked
 
 // Whether `n` bytes behind a total of so many end past the limit.
 pub fn past_limit(total: usize, n: usize) -> bool
-    ensures { λ r. ⌜ r ≡ ltb limit (total + n) ⌝ }
+    ensures { result ≡ ltb limit (total + n) }
 {
     if total > LIMIT {
         return true;
@@ -52,7 +48,7 @@ pub(crate) fn gcm_start(
     iv: usize,
     label: usize,
 ) -> Checked
-    ensures { λ r. ⌜ r ≡ gcmStarting answer mark direction iv label ⌝ }
+    ensures { result ≡ gcm_starting answer mark direction iv label }
 {
     let first = cipher_mode::checks::key_and_iv(answer, mark, direction, CipherMode::Gcm, iv);
     and_then(first, cipher_mode::checks::label(CipherMode::Gcm, label))
@@ -60,7 +56,7 @@ pub(crate) fn gcm_start(
 
 // A state stands at 0 while it runs, and otherwise at the number of what every call answers.
 fn standing(mark: u32) -> Checked
-    ensures { λ r. ⌜ r ≡ standing mark ⌝ }
+    ensures { result ≡ standing mark }
 {
     if mark == 0 {
         return Checked::Passed;
@@ -85,7 +81,7 @@ fn standing(mark: u32) -> Checked
 
 // A state that runs, and `n` bytes more. The lengths of a state that a host made up may be any numbers.
 pub(crate) fn running(mark: u32, label: usize, total: usize, n: usize) -> Checked
-    ensures { λ r. ⌜ r ≡ running mark label total n ⌝ }
+    ensures { result ≡ running mark label total n }
 {
     let text = refuse(past_limit(total, n), Refusal::TooLong, Checked::Passed);
     and_then(
@@ -103,7 +99,7 @@ pub(crate) fn writing(
     written: usize,
     room: usize,
 ) -> Checked
-    ensures { λ r. ⌜ r ≡ writing mark label total n written room ⌝ }
+    ensures { result ≡ writing mark label total n written room }
 {
     let space = refuse(room < written, Refusal::NoRoom, Checked::Passed);
     and_then(running(mark, label, total, n), space)
@@ -111,7 +107,7 @@ pub(crate) fn writing(
 
 // Or a tag of `tag` bytes is handed in. A longer one misses none.
 pub(crate) fn tagged(mark: u32, label: usize, total: usize, tag: usize) -> Checked
-    ensures { λ r. ⌜ r ≡ tagged mark label total tag ⌝ }
+    ensures { result ≡ tagged mark label total tag }
 {
     let missing = (16 - flow::least(tag, 16)) as u8;
     let whole = refuse(tag != 16, Refusal::ShortGcm(missing), Checked::Passed);

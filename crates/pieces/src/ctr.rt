@@ -1,22 +1,18 @@
 // Ctr in pieces, either way.
-ghost use mathlib.Core.Path.{_≡_};
-ghost use mathlib.Core.List.{[]};
-ghost use Rattle·pieces·specs.specs.States.{ctrShut};
-ghost use Rattle·pieces·specs.specs.Calls.{ctrStepped, ctrStart, ctrPiece, ctrEnd};
-use crate::checks;
-use crate::flow;
-use crate::flow::Counting;
-use crate::flow::Flow;
-use cipher_mode::CipherMode;
-use cipher_mode::Direction;
-use cipher_mode::Sm4Cipher;
-use cipher_mode::answer;
+ghost use Rattle.std.specs.Prelude.{◌≡◌, []};
+ghost use Rattle.pieces.specs.States.{ctr_shut};
+ghost use Rattle.pieces.specs.Calls.{ctr_stepped, ctr_start, ctr_piece, ctr_end};
+
+use crate::flow::{Counting, Flow};
+use crate::{checks, flow};
 use cipher_mode::answer::Answer;
 use cipher_mode::checks::Checked;
+use cipher_mode::{CipherMode, Direction, Sm4Cipher, answer};
 
 // The round keys, the flow, the first counter, and how many bytes went through; 0, or what every call answers; the key's number
 // and the mark of its engine. A host in C hands it in and out.
 #[repr(C)]
+#[derive(Drop)]
 pub struct Ctr {
     pub rk: [u32; 32],
     pub flow: Flow,
@@ -27,6 +23,7 @@ pub struct Ctr {
     pub engine: u8,
 }
 
+#[derive(Drop)]
 pub struct CtrStep {
     pub answer: Answer,
     pub state: Ctr,
@@ -34,7 +31,7 @@ pub struct CtrStep {
 
 // The state of no message.
 fn shut(key: u16, stands: u32) -> Ctr
-    ensures { λ r. ⌜ r ≡ ctrShut key stands ⌝ }
+    ensures { result ≡ ctr_shut key stands }
 {
     Ctr {
         rk: [0u32; 32],
@@ -49,7 +46,7 @@ fn shut(key: u16, stands: u32) -> Ctr
 
 // Key and IV are checked as in the single call of that direction; from here on the two are the same.
 pub fn start(direction: Direction, cipher: Sm4Cipher, iv: &[u8]) -> CtrStep
-    ensures { λ r. ⌜ ctrStepped r [] ≡ ctrStart direction cipher (now (iv .entry)) ⌝ }
+    ensures { ctr_stepped result [] ≡ ctr_start direction cipher iv.now }
 {
     let stands = cipher.answer;
     let key = cipher_mode::number_in(stands, cipher.number);
@@ -90,7 +87,7 @@ pub fn start(direction: Direction, cipher: Sm4Cipher, iv: &[u8]) -> CtrStep
 impl Ctr {
     // A piece of any length, to the front of `out`.
     pub fn piece(self, data: &[u8], out: &mut [u8]) -> CtrStep
-        ensures { λ r. ⌜ ctrStepped r (now (out .exit)) ≡ ctrPiece self (now («data» .entry)) (now (out .entry)) ⌝ }
+        ensures { ctr_stepped result out.new ≡ ctr_piece self «data».now out.old }
     {
         let key = self.key;
         let n = data.len();
@@ -124,7 +121,7 @@ impl Ctr {
 
     // The end of the message, which tells whether its counter came round. Nothing is kept.
     pub fn end(self) -> CtrStep
-        ensures { λ r. ⌜ ctrStepped r [] ≡ ctrEnd self ⌝ }
+        ensures { ctr_stepped result [] ≡ ctr_end self }
     {
         let key = self.key;
         let checked = checks::running(self.stands, 0, self.total, 0);

@@ -1,18 +1,18 @@
 // Key stream on its way through a message: counters, each with its cipher, that a text is xored with from any place on.
-ghost use mathlib.Core.Path.{_≡_};
-ghost use Prim.Native.Nat.{_<_, _≤_, min};
-ghost use lib.ListN.{length, drop};
-ghost use Rattle·block.specs.Words.{unwords};
-ghost use Rattle·block.specs.Xor.{xors};
-ghost use Rattle·cipher.specs.Engine.{Engine};
-ghost use Rattle·cipher.specs.Sm4.{encryptBlock};
-ghost use Rattle·block.specs.Over.{over};
-ghost use Rattle·walk.specs.Walk.{chain};
-ghost use Rattle·pieces·specs.specs.States.{noFlow};
-ghost use Rattle·pieces·specs.specs.Flow.{kindOf, nextCounter, flowMode, flowAt, flowAfter, flowText, flowNext};
+ghost use Rattle.std.specs.Prelude.{◌≡◌, ◌<◌, ◌≤◌, min, length, drop};
+ghost use Rattle.block.specs.Words.{unwords};
+ghost use Rattle.block.specs.Xor.{xors};
+ghost use Rattle.cipher.specs.Engine.{Engine};
+ghost use Rattle.cipher.specs.Sm4.{encrypt_block};
+ghost use Rattle.block.specs.Over.{over};
+ghost use Rattle.walk.specs.Walk.{chain};
+ghost use Rattle.pieces.specs.States.{no_flow};
+ghost use Rattle.pieces.specs.Flow.{kind_of, next_counter, flow_mode, flow_at, flow_after, flow_text, flow_next};
+
 use stream::Kind;
 
 // Whose counters: all sixteen bytes count, or the last four.
+#[derive(Clone, Copy)]
 pub enum Counting {
     Ctr,
     Gcm,
@@ -21,13 +21,14 @@ pub enum Counting {
 // The counter of the block that is begun, and its cipher, at a block's edge too: so no block is ciphered twice, and however a
 // message is cut it has as many ciphers as the single call. The place in the block is the caller's to know.
 #[repr(C)]
+#[derive(Drop)]
 pub struct Flow {
     pub counter: [u8; 16],
     pub pad: [u8; 16],
 }
 
 fn kind_of(counting: Counting) -> Kind
-    ensures { λ r. ⌜ r ≡ kindOf counting ⌝ }
+    ensures { result ≡ kind_of counting }
 {
     match counting {
         Counting::Ctr => Kind::Ctr,
@@ -36,7 +37,7 @@ fn kind_of(counting: Counting) -> Kind
 }
 
 fn next_counter(counting: Counting, s: [u32; 4]) -> [u32; 4]
-    ensures { λ r. ⌜ unwords r ≡ nextCounter counting (unwords s) ⌝ }
+    ensures { unwords result ≡ next_counter counting (unwords s) }
 {
     match counting {
         Counting::Ctr => counter::block_add_one(s).counter,
@@ -46,16 +47,16 @@ fn next_counter(counting: Counting, s: [u32; 4]) -> [u32; 4]
 
 // The smaller one.
 pub(crate) fn least(a: usize, b: usize) -> usize
-    ensures { λ r. ⌜ r ≡ min a b ⌝ }
+    ensures { result ≡ min a b }
 {
     if a < b { a } else { b }
 }
 
 // The bytes of `data` that the pad has from place p on, xored with it, to the front of `out`.
 pub(crate) fn xor_pad(pad: [u8; 16], p: usize, data: &[u8], out: &mut [u8])
-    requires { ⌜ p ≤ 16 ⌝ }
-    requires { ⌜ length (now «data») ≤ length (now out) ⌝ }
-    ensures { λ _. ⌜ now (out .exit) ≡ over (xors (now («data» .entry)) (drop p pad)) (now (out .entry)) ⌝ }
+    requires p_bound { p ≤ 16 }
+    requires data_in_bounds { length «data».now ≤ length out.old }
+    ensures { out.new ≡ over (xors «data».now (drop p pad)) out.old }
 {
     let n = least(data.len(), 16 - p);
     let mut i: usize = 0;
@@ -67,7 +68,7 @@ pub(crate) fn xor_pad(pad: [u8; 16], p: usize, data: &[u8], out: &mut [u8])
 
 // A flow of zeros, of no message.
 pub(crate) fn none() -> Flow
-    ensures { λ r. ⌜ r ≡ noFlow ⌝ }
+    ensures { result ≡ no_flow }
 {
     Flow {
         counter: [0u8; 16],
@@ -77,16 +78,16 @@ pub(crate) fn none() -> Flow
 
 // The cipher of a block, in bytes.
 pub(crate) fn ciphered(t: &[u32], rk: [u32; 32], s: [u32; 4]) -> [u8; 16]
-    requires { ⌜ Engine (now t) ⌝ }
-    ensures { λ r. ⌜ r ≡ encryptBlock rk (unwords s) ⌝ }
+    requires { Engine t.now }
+    ensures { result ≡ encrypt_block rk (unwords s) }
 {
     block::combine_block(cipher::encrypt(t, rk, s))
 }
 
 // The flow at a counter.
 pub fn begin(t: &[u32], rk: [u32; 32], s: [u32; 4]) -> Flow
-    requires { ⌜ Engine (now t) ⌝ }
-    ensures { λ r. ⌜ r ≡ flowAt rk (unwords s) ⌝ }
+    requires { Engine t.now }
+    ensures { result ≡ flow_at rk (unwords s) }
 {
     Flow {
         counter: block::combine_block(s),
@@ -103,10 +104,10 @@ fn onward(
     data: &[u8],
     out: &mut [u8],
 ) -> Flow
-    requires { ⌜ Engine (now t) ⌝ }
-    requires { ⌜ length (now «data») ≤ length (now out) ⌝ }
-    ensures { λ r. ⌜ r ≡ flowAfter counting rk (nextCounter counting counter) (now («data» .entry)) ⌝ }
-    ensures { λ _. ⌜ now (out .exit) ≡ over (chain (flowMode counting rk) (nextCounter counting counter) (now («data» .entry))) (now (out .entry)) ⌝ }
+    requires engine { Engine t.now }
+    requires data_in_bounds { length «data».now ≤ length out.old }
+    ensures value { result ≡ flow_after counting rk (next_counter counting counter) «data».now }
+    ensures out_after { out.new ≡ over (chain (flow_mode counting rk) (next_counter counting counter) «data».now) out.old }
 {
     let next = next_counter(counting, block::split_block(&counter));
     let end = stream::stream(t, rk, kind_of(counting), next, true, data, out);
@@ -128,11 +129,11 @@ pub fn run(
     data: &[u8],
     out: &mut [u8],
 ) -> Flow
-    requires { ⌜ Engine (now t) ⌝ }
-    requires { ⌜ p < 16 ⌝ }
-    requires { ⌜ length (now «data») ≤ length (now out) ⌝ }
-    ensures { λ r. ⌜ r ≡ flowNext counting rk flow p (now («data» .entry)) ⌝ }
-    ensures { λ _. ⌜ now (out .exit) ≡ over (flowText counting rk flow p (now («data» .entry))) (now (out .entry)) ⌝ }
+    requires engine { Engine t.now }
+    requires p_bound { p < 16 }
+    requires data_in_bounds { length «data».now ≤ length out.old }
+    ensures value { result ≡ flow_next counting rk flow p «data».now }
+    ensures out_after { out.new ≡ over (flow_text counting rk flow p «data».now) out.old }
 {
     let pad = flow.pad;
     xor_pad(pad, p, data, out);
@@ -154,10 +155,10 @@ pub(crate) fn run_by(
     data: &[u8],
     out: &mut [u8],
 ) -> Flow
-    requires { ⌜ p < 16 ⌝ }
-    requires { ⌜ length (now «data») ≤ length (now out) ⌝ }
-    ensures { λ r. ⌜ r ≡ flowNext counting rk flow p (now («data» .entry)) ⌝ }
-    ensures { λ _. ⌜ now (out .exit) ≡ over (flowText counting rk flow p (now («data» .entry))) (now (out .entry)) ⌝ }
+    requires p_bound { p < 16 }
+    requires data_in_bounds { length «data».now ≤ length out.old }
+    ensures value { result ≡ flow_next counting rk flow p «data».now }
+    ensures out_after { out.new ≡ over (flow_text counting rk flow p «data».now) out.old }
 {
     let engine = cipher::engine_of(mark, false);
     let t = cipher::laid_out(engine);

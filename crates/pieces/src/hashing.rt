@@ -1,19 +1,18 @@
 // GCM's hash on its way through a text that comes in pieces.
-ghost use mathlib.Core.Path.{_≡_};
-ghost use mathlib.Core.List.{[], _++_};
-ghost use Prim.Native.Nat.{_<_, _≤_};
-ghost use lib.ListN.{getD, take};
-ghost use Rattle·block.specs.BigEndian.{numberOf, bytesOf};
-ghost use Rattle·block.specs.Wide.{value};
-ghost use Rattle·ghash.specs.Ghash.{Hashable};
-ghost use Rattle·pieces·specs.specs.States.{noHashing};
-ghost use Rattle·pieces·specs.specs.Hashing.{filledUp, hashAfter, hashNext, hashEnd, hashOf};
+ghost use Rattle.std.specs.Prelude.{◌≡◌, [], ◌++◌, ◌<◌, ◌≤◌, get_or, take};
+ghost use Rattle.block.specs.BigEndian.{number_of, bytes_of};
+ghost use Rattle.block.specs.Wide.{value};
+ghost use Rattle.ghash.specs.Ghash.{Hashable};
+ghost use Rattle.pieces.specs.States.{no_hashing};
+ghost use Rattle.pieces.specs.Hashing.{filled_up, hash_after, hash_next, hash_end, hash_of};
+
 use block::U128;
 use ghash::Ghash;
 
 // The key H, the hash of the full blocks so far, and the block that is begun, each as sixteen bytes. How much is begun is the
 // caller's to know.
 #[repr(C)]
+#[derive(Drop)]
 pub struct Hashing {
     pub h: [u8; 16],
     pub y: [u8; 16],
@@ -22,7 +21,7 @@ pub struct Hashing {
 
 // A hash of zeros, of no message.
 pub(crate) fn none() -> Hashing
-    ensures { λ r. ⌜ r ≡ noHashing ⌝ }
+    ensures { result ≡ no_hashing }
 {
     Hashing {
         h: [0u8; 16],
@@ -32,28 +31,28 @@ pub(crate) fn none() -> Hashing
 }
 
 fn number_of(b: [u8; 16]) -> U128
-    ensures { λ r. ⌜ value r ≡ numberOf b ⌝ }
+    ensures { value result ≡ number_of b }
 {
     block::to_u128(block::split_block(&b))
 }
 
 fn bytes_of(n: U128) -> [u8; 16]
-    ensures { λ r. ⌜ r ≡ bytesOf 16 (value n) ⌝ }
+    ensures { result ≡ bytes_of 16 (value n) }
 {
     block::combine_block(block::from_u128(n))
 }
 
 // The byte at i, or 0 past the end.
 fn byte_at(data: &[u8], i: usize) -> u8
-    ensures { λ r. ⌜ r ≡ getD (now («data» .entry)) i 0 ⌝ }
+    ensures { result ≡ get_or «data».now i 0 }
 {
     if i < data.len() { data[i] } else { 0 }
 }
 
 // The first p bytes of `held` with `data` behind them: the first sixteen of these, zeros to the end.
 fn filled(held: [u8; 16], p: usize, data: &[u8]) -> [u8; 16]
-    requires { ⌜ p ≤ 16 ⌝ }
-    ensures { λ r. ⌜ r ≡ filledUp (take p held ++ now («data» .entry)) ⌝ }
+    requires { p ≤ 16 }
+    ensures { result ≡ filled_up (take p held ++ «data».now) }
 {
     let mut b = held;
     let mut i = p;
@@ -67,8 +66,8 @@ fn filled(held: [u8; 16], p: usize, data: &[u8]) -> [u8; 16]
 // `data` behind the p bytes that are held. The first block is theirs both; the full blocks behind it go through the hash as
 // they stand, and the last bytes are held.
 pub(crate) fn take_in(g: Hashing, p: usize, data: &[u8]) -> Hashing
-    requires { ⌜ p < 16 ⌝ }
-    ensures { λ r. ⌜ r ≡ hashNext g p (now («data» .entry)) ⌝ }
+    requires { p < 16 }
+    ensures { result ≡ hash_next g p «data».now }
 {
     let h = g.h;
     let y = g.y;
@@ -83,7 +82,7 @@ pub(crate) fn take_in(g: Hashing, p: usize, data: &[u8]) -> Hashing
 
 // A full block and then `rest`, of which the last bytes are held.
 fn full_blocks(h: [u8; 16], y: [u8; 16], first: [u8; 16], rest: &[u8]) -> Hashing
-    ensures { λ r. ⌜ r ≡ hashAfter h y (first ++ now (rest .entry)) ⌝ }
+    ensures { result ≡ hash_after h y (first ++ rest.now) }
 {
     let n = rest.len() - rest.len() % 16;
     let start = Ghash {
@@ -102,9 +101,9 @@ fn full_blocks(h: [u8; 16], y: [u8; 16], first: [u8; 16], rest: &[u8]) -> Hashin
 
 // The hash at the end of a text, where p bytes are held, for these lengths of label and text.
 pub(crate) fn end(g: Hashing, p: usize, label: usize, text: usize) -> [u8; 16]
-    requires { ⌜ p < 16 ⌝ }
-    requires { ⌜ Hashable label × Hashable text ⌝ }
-    ensures { λ r. ⌜ r ≡ hashEnd g p label text ⌝ }
+    requires p_bound { p < 16 }
+    requires hashable { Hashable label × Hashable text }
+    ensures { result ≡ hash_end g p label text }
 {
     let h = g.h;
     let y = g.y;
@@ -120,7 +119,7 @@ pub(crate) fn end(g: Hashing, p: usize, label: usize, text: usize) -> [u8; 16]
 
 // The hash before the first byte of a text, under H: that of the label's blocks.
 pub(crate) fn begin(h: U128, label: &[u8]) -> Hashing
-    ensures { λ r. ⌜ r ≡ hashOf (value h) (now (label .entry)) [] ⌝ }
+    ensures { result ≡ hash_of (value h) label.now [] }
 {
     let start = Ghash::new(h);
     let labelled = start.absorb_all(label);

@@ -1,26 +1,20 @@
 // Whether a sealed message opens that comes in pieces, with its tag at the end. No text is written.
-ghost use mathlib.Core.Path.{_≡_};
-ghost use mathlib.Core.List.{[]};
-ghost use lib.ListN.{length};
-ghost use Rattle·block.specs.Same.{same};
-ghost use Rattle·block.specs.Xor.{xors};
-ghost use Rattle·pieces·specs.specs.States.{opensShut};
-ghost use Rattle·pieces·specs.specs.Calls.{opensStepped, opensStart, opensPiece, opensEnd};
-use crate::checks;
-use crate::hashing;
+ghost use Rattle.std.specs.Prelude.{◌≡◌, [], length};
+ghost use Rattle.block.specs.Same.{same};
+ghost use Rattle.block.specs.Xor.{xors};
+ghost use Rattle.pieces.specs.States.{opens_shut};
+ghost use Rattle.pieces.specs.Calls.{opens_stepped, opens_start, opens_piece, opens_end};
+
 use crate::hashing::Hashing;
-use crate::tagging;
-use cipher_mode::CipherMode;
-use cipher_mode::Direction;
-use cipher_mode::Sm4Cipher;
-use cipher_mode::answer;
-use cipher_mode::answer::Answer;
-use cipher_mode::answer::Refusal;
+use crate::{checks, hashing, tagging};
+use cipher_mode::answer::{Answer, Refusal};
 use cipher_mode::checks::Checked;
+use cipher_mode::{CipherMode, Direction, Sm4Cipher, answer};
 
 // The hash, the cipher of J0, the lengths and the number in J0's last four bytes; 0, or what every call answers; the key's number. The
 // round keys are needed no more.
 #[repr(C)]
+#[derive(Drop)]
 pub struct Opens {
     pub hashing: Hashing,
     pub mask: [u8; 16],
@@ -31,6 +25,7 @@ pub struct Opens {
     pub key: u16,
 }
 
+#[derive(Drop)]
 pub struct OpensStep {
     pub answer: Answer,
     pub state: Opens,
@@ -38,7 +33,7 @@ pub struct OpensStep {
 
 // The state of no message.
 fn shut(key: u16, stands: u32) -> Opens
-    ensures { λ r. ⌜ r ≡ opensShut key stands ⌝ }
+    ensures { result ≡ opens_shut key stands }
 {
     Opens {
         hashing: hashing::none(),
@@ -53,7 +48,7 @@ fn shut(key: u16, stands: u32) -> Opens
 
 // Key, IV and label are checked as in the single call.
 pub fn start(cipher: Sm4Cipher, aad: &[u8], iv: &[u8]) -> OpensStep
-    ensures { λ r. ⌜ opensStepped r [] ≡ opensStart cipher (now (aad .entry)) (now (iv .entry)) ⌝ }
+    ensures { opens_stepped result [] ≡ opens_start cipher aad.now iv.now }
 {
     let stands = cipher.answer;
     let key = cipher_mode::number_in(stands, cipher.number);
@@ -88,8 +83,8 @@ pub fn start(cipher: Sm4Cipher, aad: &[u8], iv: &[u8]) -> OpensStep
 
 // Whether the tag is the one of mask and hash.
 fn same_tag(tag: &[u8], mask: [u8; 16], hash: [u8; 16]) -> bool
-    requires { ⌜ length (now tag) ≡ 16 ⌝ }
-    ensures { λ r. ⌜ r ≡ same (now (tag .entry)) (xors mask hash) ⌝ }
+    requires { length tag.now ≡ 16 }
+    ensures { result ≡ same tag.now (xors mask hash) }
 {
     let expected = block::block_xor(block::split_block(&mask), block::split_block(&hash));
     gcm::is_tag(tag, expected)
@@ -98,7 +93,7 @@ fn same_tag(tag: &[u8], mask: [u8; 16], hash: [u8; 16]) -> bool
 impl Opens {
     // A piece of the ciphertext.
     pub fn piece(self, data: &[u8]) -> OpensStep
-        ensures { λ r. ⌜ opensStepped r [] ≡ opensPiece self (now («data» .entry)) ⌝ }
+        ensures { opens_stepped result [] ≡ opens_piece self «data».now }
     {
         let key = self.key;
         let n = data.len();
@@ -130,7 +125,7 @@ impl Opens {
 
     // The end: 0 where the message opens with this tag, and whether the counter came round; otherwise 4. Either way nothing is kept.
     pub fn end(self, tag: &[u8]) -> OpensStep
-        ensures { λ r. ⌜ opensStepped r [] ≡ opensEnd self (now (tag .entry)) ⌝ }
+        ensures { opens_stepped result [] ≡ opens_end self tag.now }
     {
         let key = self.key;
         let total = self.total;

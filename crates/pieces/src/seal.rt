@@ -1,25 +1,19 @@
 // Gcm sealing in pieces: the ciphertext of each as it comes, and the tag at the end.
-ghost use mathlib.Core.Path.{_≡_};
-ghost use mathlib.Core.List.{[]};
-ghost use Rattle·pieces·specs.specs.States.{sealShut};
-ghost use Rattle·pieces·specs.specs.Calls.{sealStepped, sealStart, sealPiece, sealEnd};
-use crate::checks;
-use crate::flow;
-use crate::flow::Counting;
-use crate::flow::Flow;
-use crate::hashing;
+ghost use Rattle.std.specs.Prelude.{◌≡◌, []};
+ghost use Rattle.pieces.specs.States.{seal_shut};
+ghost use Rattle.pieces.specs.Calls.{seal_stepped, seal_start, seal_piece, seal_end};
+
+use crate::flow::{Counting, Flow};
 use crate::hashing::Hashing;
-use crate::tagging;
-use cipher_mode::CipherMode;
-use cipher_mode::Direction;
-use cipher_mode::Sm4Cipher;
-use cipher_mode::answer;
+use crate::{checks, flow, hashing, tagging};
 use cipher_mode::answer::Answer;
 use cipher_mode::checks::Checked;
+use cipher_mode::{CipherMode, Direction, Sm4Cipher, answer};
 
 // The round keys, the flow, the hash of what was written, the cipher of J0, the lengths and the number in J0's last four bytes; 0, or
 // what every call answers; the key's number and the mark of its engine.
 #[repr(C)]
+#[derive(Drop)]
 pub struct Seal {
     pub rk: [u32; 32],
     pub flow: Flow,
@@ -33,6 +27,7 @@ pub struct Seal {
     pub engine: u8,
 }
 
+#[derive(Drop)]
 pub struct SealStep {
     pub answer: Answer,
     pub state: Seal,
@@ -40,7 +35,7 @@ pub struct SealStep {
 
 // The state of no message.
 fn shut(key: u16, stands: u32) -> Seal
-    ensures { λ r. ⌜ r ≡ sealShut key stands ⌝ }
+    ensures { result ≡ seal_shut key stands }
 {
     Seal {
         rk: [0u32; 32],
@@ -58,7 +53,7 @@ fn shut(key: u16, stands: u32) -> Seal
 
 // Key, IV and label are checked as in the single call.
 pub fn start(cipher: Sm4Cipher, aad: &[u8], iv: &[u8]) -> SealStep
-    ensures { λ r. ⌜ sealStepped r [] ≡ sealStart cipher (now (aad .entry)) (now (iv .entry)) ⌝ }
+    ensures { seal_stepped result [] ≡ seal_start cipher aad.now iv.now }
 {
     let stands = cipher.answer;
     let key = cipher_mode::number_in(stands, cipher.number);
@@ -100,7 +95,7 @@ pub fn start(cipher: Sm4Cipher, aad: &[u8], iv: &[u8]) -> SealStep
 impl Seal {
     // A piece of any length, to the front of `out`. What was written is hashed.
     pub fn piece(self, data: &[u8], out: &mut [u8]) -> SealStep
-        ensures { λ r. ⌜ sealStepped r (now (out .exit)) ≡ sealPiece self (now («data» .entry)) (now (out .entry)) ⌝ }
+        ensures { seal_stepped result out.new ≡ seal_piece self «data».now out.old }
     {
         let key = self.key;
         let n = data.len();
@@ -139,7 +134,7 @@ impl Seal {
 
     // The end: the tag, to the front of `out`, and whether the counter came round. Nothing is kept.
     pub fn end(self, out: &mut [u8]) -> SealStep
-        ensures { λ r. ⌜ sealStepped r (now (out .exit)) ≡ sealEnd self (now (out .entry)) ⌝ }
+        ensures { seal_stepped result out.new ≡ seal_end self out.old }
     {
         let key = self.key;
         let total = self.total;

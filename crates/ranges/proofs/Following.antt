@@ -1,26 +1,26 @@
 -- What it says of a piece that the pieces from it on follow one another to n, and that the check's test of one piece tells it.
-use Rattle·ranges·proofs.proofs.Names.{Bool, List, [], _%_, _&&_, _+_, _-_, _<_, _||_, _∙_, _∷_, _≡_, _≢_, _≤_, add-one, and-left}
-use Rattle·ranges·proofs.proofs.Names.{and-right, arith, by-order, cond, drop, drop-cons, drop-of-length-le, eq-eqb, eqb, eqb-false}
-use Rattle·ranges·proofs.proofs.Names.{eqb-true, false, false≢true, follows, getD, getD-take, isLast, isPiece, le-leb, leb, leb-true}
-use Rattle·ranges·proofs.proofs.Names.{length, length-drop, length-take-le, ne-eqb, not, not-true, refl, sym, take, true, ℕ}
+use Rattle.ranges.proofs.Names.{Bool, List, [], ◌%◌, ◌&&◌, ◌+◌, ◌-◌, ◌<◌, ◌||◌, ◌∙◌, ◌∷◌, ◌≡◌, ◌≢◌, ◌≤◌, add-one, and_left}
+use Rattle.ranges.proofs.Names.{and_right, arith, by_order, cond, drop, drop-cons, drop_of_length-le, eq-eqb, eqb, eqb-false}
+use Rattle.ranges.proofs.Names.{eqb-true, false, false≢true, follows, get_or, get_or-take, is_last, is_piece, le-leb, leb, leb-true}
+use Rattle.ranges.proofs.Names.{length, length-drop, length-take-le, ne_eqb, not, not-true, refl, sym, take, true, ℕ}
 
 -- the first of pieces that follow one another from `at` to n
 pub record First (at n s l : ℕ) (ss ls : List ℕ) : Type 0 where
-  pub starts-here : s ≡ at
+  pub starts_here : s ≡ at
   pub not-empty : l ≢ 0
   pub whole : 0 < length ss → l % 16 ≡ 0
   pub inside : at + l ≤ n
   pub rest : follows (at + l) n ss ls ≡ true
 
-not-last : (ss : List ℕ) (l : ℕ) → (isLast ss || eqb (l % 16) 0) ≡ true → 0 < length ss → l % 16 ≡ 0
-not-last [] l e h = absurd (omega (arith, h))
-not-last (s ∷ ss) l e h = eqb-true (l % 16) 0 e
+not_last : (ss : List ℕ) (l : ℕ) → (is_last ss || eqb (l % 16) 0) ≡ true → 0 < length ss → l % 16 ≡ 0
+not_last [] l e h = absurd (omega (arith, h))
+not_last (s ∷ ss) l e h = eqb-true (l % 16) 0 e
 
 -- those behind it
 behind : (at n s l : ℕ) (ss ls : List ℕ) → follows at n (s ∷ ss) (l ∷ ls) ≡ true → follows (at + l) n ss ls ≡ true
 unfolding follows
 behind at n s l ss ls e =
-    and-right (isLast ss || eqb (l % 16) 0) _ (and-right (not (eqb l 0)) _ (and-right (eqb s at) _ e))
+    and_right (is_last ss || eqb (l % 16) 0) _ (and_right (not (eqb l 0)) _ (and_right (eqb s at) _ e))
 
 -- pieces that follow one another to n begin at n or before it
 reaches : (at n : ℕ) (ss ls : List ℕ) → follows at n ss ls ≡ true → at ≤ n
@@ -29,14 +29,14 @@ reaches at n [] ls e = omega (arith, eqb-true at n e)
 reaches at n (s ∷ ss) [] e = absurd (false≢true e)
 reaches at n (s ∷ ss) (l ∷ ls) e = omega (arith, reaches (at + l) n ss ls (behind at n s l ss ls e))
 
-pub first-piece : (at n s l : ℕ) (ss ls : List ℕ) → follows at n (s ∷ ss) (l ∷ ls) ≡ true → First at n s l ss ls
+pub first_piece : (at n s l : ℕ) (ss ls : List ℕ) → follows at n (s ∷ ss) (l ∷ ls) ≡ true → First at n s l ss ls
 unfolding follows
-first-piece at n s l ss ls e =
-    let from-length = and-right (eqb s at) _ e in
+first_piece at n s l ss ls e =
+    let from-length = and_right (eqb s at) _ e in
     record {
-      starts-here = eqb-true s at (and-left (eqb s at) _ e);
-      not-empty = eqb-false l 0 (not-true (eqb l 0) (and-left (not (eqb l 0)) _ from-length));
-      whole = not-last ss l (and-left (isLast ss || eqb (l % 16) 0) _ (and-right (not (eqb l 0)) _ from-length));
+      starts_here = eqb-true s at (and_left (eqb s at) _ e);
+      not-empty = eqb-false l 0 (not-true (eqb l 0) (and_left (not (eqb l 0)) _ from-length));
+      whole = not_last ss l (and_left (is_last ss || eqb (l % 16) 0) _ (and_right (not (eqb l 0)) _ from-length));
       inside = reaches (at + l) n ss ls (behind at n s l ss ls e);
       rest = behind at n s l ss ls e;
     }
@@ -52,16 +52,16 @@ told true false c d rest f = refl
 told false b c d rest f = refl
 
 -- the pieces from number i on, which starts at byte `at`
-abbrev pub followsFrom : List ℕ → List ℕ → ℕ → ℕ → ℕ → ℕ → Bool
-followsFrom starts lengths count n i at = follows at n (drop i (take count starts)) (drop i (take count lengths))
+abbrev pub follows_from : List ℕ → List ℕ → ℕ → ℕ → ℕ → ℕ → Bool
+follows_from starts lengths count n i at = follows at n (drop i (take count starts)) (drop i (take count lengths))
 
 module _ (starts lengths : List ℕ) (count i at n : ℕ)
-    (room : count ≤ length starts) (room′ : count ≤ length lengths) (inside : i < count) where
+    (room : count ≤ length starts) (room' : count ≤ length lengths) (inside : i < count) where
   abbrev s : ℕ
-  s = getD starts i 0
+  s = get_or starts i 0
 
   abbrev l : ℕ
-  l = getD lengths i 0
+  l = get_or lengths i 0
 
   abbrev ss : List ℕ
   ss = drop (i + 1) (take count starts)
@@ -69,52 +69,52 @@ module _ (starts lengths : List ℕ) (count i at n : ℕ)
   abbrev ls : List ℕ
   ls = drop (i + 1) (take count lengths)
 
-  pub turn : followsFrom starts lengths count n i at ≡ follows at n (s ∷ ss) (l ∷ ls)
+  pub turn : follows_from starts lengths count n i at ≡ follows at n (s ∷ ss) (l ∷ ls)
   turn =
       rw (add-one i, drop-cons (take count starts) i 0 (omega (arith, length-take-le count starts room)))
-      (rw (drop-cons (take count lengths) i 0 (omega (arith, length-take-le count lengths room′)), getD-take count starts i 0 inside)
-      (rw (getD-take count lengths i 0 inside)))
+      (rw (drop-cons (take count lengths) i 0 (omega (arith, length-take-le count lengths room')), get_or-take count starts i 0 inside)
+      (rw (get_or-take count lengths i 0 inside)))
 
-  pub follows-on : followsFrom starts lengths count n i at ≡ true → First at n s l ss ls
-  follows-on e = first-piece at n s l ss ls (sym turn ∙ e)
+  pub follows_on : follows_from starts lengths count n i at ≡ true → First at n s l ss ls
+  follows_on e = first_piece at n s l ss ls (sym turn ∙ e)
 
   -- piece i is the last exactly where i + 1 pieces are all
-  last : isLast ss ≡ eqb (i + 1) count
+  last : is_last ss ≡ eqb (i + 1) count
   last =
       let all = length-take-le count starts room in
-      by-order (i + 1) count
-      (λ h. rw (drop-cons (take count starts) (i + 1) 0 (omega arith), ne-eqb (i + 1) count (λ e. omega arith)))
-      (λ h. rw (drop-of-length-le (take count starts) {i = i + 1} (omega arith), eq-eqb (i + 1) count (omega arith)))
+      by_order (i + 1) count
+      (λ h. rw (drop-cons (take count starts) (i + 1) 0 (omega arith), ne_eqb (i + 1) count (λ e. omega arith)))
+      (λ h. rw (drop_of_length-le (take count starts) {i = i + 1} (omega arith), eq-eqb (i + 1) count (omega arith)))
 
-  pub not-yet-last : i + 1 < count → 0 < length ss
-  not-yet-last h = rw (length-drop (i + 1) (take count starts), length-take-le count starts room) (omega arith)
+  pub not_yet_last : i + 1 < count → 0 < length ss
+  not_yet_last h = rw (length-drop (i + 1) (take count starts), length-take-le count starts room) (omega arith)
 
-  pub last-or-whole : (i + 1 < count → l % 16 ≡ 0) → (isLast ss || eqb (l % 16) 0) ≡ true
+  pub last-or-whole : (i + 1 < count → l % 16 ≡ 0) → (is_last ss || eqb (l % 16) 0) ≡ true
   last-or-whole f =
-      by-order (i + 1) count
-      (λ h. rw (last, ne-eqb (i + 1) count (λ e. omega arith), eq-eqb (l % 16) 0 (f h)))
+      by_order (i + 1) count
+      (λ h. rw (last, ne_eqb (i + 1) count (λ e. omega arith), eq-eqb (l % 16) 0 (f h)))
       (λ h. rw (last, eq-eqb (i + 1) count (omega arith)))
 
   module _ (here : at ≤ n) where
     -- the test of the piece decides, and after it those to come
-    pub tested : followsFrom starts lengths count n i at
-        ≡ cond (isPiece s l at (n - at) (eqb (i + 1) count)) (followsFrom starts lengths count n (i + 1) (at + l)) false
-    unfolding follows isPiece
+    pub tested : follows_from starts lengths count n i at
+        ≡ cond (is_piece s l at (n - at) (eqb (i + 1) count)) (follows_from starts lengths count n (i + 1) (at + l)) false
+    unfolding follows is_piece
     tested =
         turn
         ∙ rw (← last)
-        (told (eqb s at) (not (eqb l 0)) (leb l (n - at)) (isLast ss || eqb (l % 16) 0) (follows (at + l) n ss ls)
+        (told (eqb s at) (not (eqb l 0)) (leb l (n - at)) (is_last ss || eqb (l % 16) 0) (follows (at + l) n ss ls)
         (λ e. le-leb l (n - at) (omega (arith, reaches (at + l) n ss ls e))))
 
-    pub piece-fits : isPiece s l at (n - at) (eqb (i + 1) count) ≡ true → at + l ≤ n
-    unfolding isPiece
+    pub piece-fits : is_piece s l at (n - at) (eqb (i + 1) count) ≡ true → at + l ≤ n
+    unfolding is_piece
     piece-fits e =
-        let fits = leb-true l (n - at) (and-left (leb l (n - at)) _ (and-right (not (eqb l 0)) _ (and-right (eqb s at) _ e))) in
+        let fits = leb-true l (n - at) (and_left (leb l (n - at)) _ (and_right (not (eqb l 0)) _ (and_right (eqb s at) _ e))) in
         omega (arith, fits)
 
 -- after the last piece
 pub ends : (starts lengths : List ℕ) (count i at n : ℕ) → count ≤ length starts → count ≤ i
-    → followsFrom starts lengths count n i at ≡ eqb at n
+    → follows_from starts lengths count n i at ≡ eqb at n
 unfolding follows
 ends starts lengths count i at n room past =
-    rw (drop-of-length-le (take count starts) {i = i} (omega (arith, length-take-le count starts room)))
+    rw (drop_of_length-le (take count starts) {i = i} (omega (arith, length-take-le count starts room)))

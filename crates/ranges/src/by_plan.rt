@@ -1,24 +1,21 @@
 // Work by a plan: each piece by itself, as a worker does it.
-ghost use mathlib.Core.Path.{_≡_};
-ghost use mathlib.Core.Bool.{true};
-ghost use Prim.Native.Nat.{_≤_};
-ghost use lib.ListN.{length};
-ghost use Rattle·cipher.specs.Engine.{Engine};
-ghost use Rattle·block.specs.Over.{over};
-ghost use Rattle·walk.specs.Walk.{chain};
-ghost use Rattle·stream.specs.Stream.{streamMode};
-ghost use Rattle·ranges·specs.specs.Plan.{accepts};
-ghost use Rattle·ranges·specs.specs.ByPlan.{planned·outcome, planCall};
-use crate::plan;
+ghost use Rattle.std.specs.Prelude.{◌≡◌, true, ◌≤◌, length};
+ghost use Rattle.cipher.specs.Engine.{Engine};
+ghost use Rattle.block.specs.Over.{over};
+ghost use Rattle.walk.specs.Walk.{chain};
+ghost use Rattle.stream.specs.Stream.{stream_mode};
+ghost use Rattle.ranges.specs.Plan.{accepts};
+ghost use Rattle.ranges.specs.ByPlan.{planned_outcome, plan_call};
+
 use crate::plan::Plan;
-use crate::range;
-use cipher_mode::Direction;
-use cipher_mode::Sm4Cipher;
+use crate::{plan, range};
 use cipher_mode::answer::Refusal;
 use cipher_mode::checks::Checked;
+use cipher_mode::{Direction, Sm4Cipher};
 use stream::Kind;
 
 // How work by a plan ended: done with a length, by a plan that is not accepted, or refused as the single call is.
+#[derive(Drop)]
 pub enum Ended {
     Done(usize),
     NotAccepted,
@@ -26,6 +23,7 @@ pub enum Ended {
 }
 
 // How it ended, and the number of the key that it was made on: 0 where no key stands.
+#[derive(Drop)]
 pub struct ByPlan {
     pub ended: Ended,
     pub key: u16,
@@ -33,11 +31,11 @@ pub struct ByPlan {
 
 // The pieces of an accepted plan one after the other: each starts where the one before ends.
 fn put_pieces(t: &[u32], rk: [u32; 32], iv: &[u8], plan: Plan, data: &[u8], out: &mut [u8])
-    requires { ⌜ Engine (now t) ⌝ }
-    requires { ⌜ length (now iv) ≡ 16 ⌝ }
-    requires { ⌜ accepts plan (length (now «data»)) ≡ true ⌝ }
-    requires { ⌜ length (now «data») ≤ length (now out) ⌝ }
-    ensures { λ _. ⌜ now (out .exit) ≡ over (chain (streamMode Kind.Ctr rk) (now (iv .entry)) (now («data» .entry))) (now (out .entry)) ⌝ }
+    requires engine { Engine t.now }
+    requires iv_len { length iv.now ≡ 16 }
+    requires data_value { accepts plan (length «data».now) ≡ true }
+    requires data_in_bounds { length «data».now ≤ length out.old }
+    ensures { out.new ≡ over (chain (stream_mode Kind.Ctr rk) iv.now «data».now) out.old }
 {
     let count = plan.count;
     let starts = plan.starts;
@@ -55,10 +53,10 @@ fn put_pieces(t: &[u32], rk: [u32; 32], iv: &[u8], plan: Plan, data: &[u8], out:
 
 // The same by the engine of a mark, whose table is laid out here, once for all pieces. Counters do not wait for one another.
 fn pieces_by(mark: u8, rk: [u32; 32], iv: &[u8], plan: Plan, data: &[u8], out: &mut [u8])
-    requires { ⌜ length (now iv) ≡ 16 ⌝ }
-    requires { ⌜ accepts plan (length (now «data»)) ≡ true ⌝ }
-    requires { ⌜ length (now «data») ≤ length (now out) ⌝ }
-    ensures { λ _. ⌜ now (out .exit) ≡ over (chain (streamMode Kind.Ctr rk) (now (iv .entry)) (now («data» .entry))) (now (out .entry)) ⌝ }
+    requires iv_len { length iv.now ≡ 16 }
+    requires data_value { accepts plan (length «data».now) ≡ true }
+    requires data_in_bounds { length «data».now ≤ length out.old }
+    ensures { out.new ≡ over (chain (stream_mode Kind.Ctr rk) iv.now «data».now) out.old }
 {
     let engine = cipher::engine_of(mark, false);
     let t = cipher::laid_out(engine);
@@ -74,7 +72,7 @@ pub fn by_plan(
     data: &[u8],
     out: &mut [u8],
 ) -> ByPlan
-    ensures { λ r. ⌜ planned·outcome r (now (out .exit)) ≡ planCall direction cipher (now (iv .entry)) plan (now («data» .entry)) (now (out .entry)) ⌝ }
+    ensures { planned_outcome result out.new ≡ plan_call direction cipher iv.now plan «data».now out.old }
 {
     let stands = cipher.answer;
     let key = cipher_mode::number_in(stands, cipher.number);

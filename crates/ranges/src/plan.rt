@@ -1,8 +1,8 @@
 // A plan: which worker does which stretch of a message.
-ghost use mathlib.Core.Path.{_≡_};
-ghost use Prim.Native.Nat.{_*_, _≤_};
-ghost use Rattle·cipher_mode.specs.Tables.{limit};
-ghost use Rattle·ranges·specs.specs.Plan.{accepts, isPiece, begins, startAt, lengthAt, pieceSize, planIn, noPieces, planned};
+ghost use Rattle.std.specs.Prelude.{◌≡◌, ◌*◌, ◌≤◌};
+ghost use Rattle.cipher_mode.specs.Tables.{limit};
+ghost use Rattle.ranges.specs.Plan.{accepts, is_piece, begins, start_at, length_at, piece_size, plan_in, no_pieces, planned};
+
 use cipher_mode::checks::LIMIT;
 
 // The most pieces of a plan.
@@ -10,6 +10,7 @@ pub const MOST: usize = 64;
 
 // Where each piece starts and how long it is; what is past `count` is not looked at.
 #[repr(C)]
+#[derive(Clone, Copy)]
 pub struct Plan {
     pub count: usize,
     pub starts: [usize; MOST],
@@ -17,6 +18,7 @@ pub struct Plan {
 }
 
 // How the making of a plan ended. Bad workers are fewer than 1 or more than 64, number 17; too long is number 5.
+#[derive(Drop)]
 pub enum Making {
     Made,
     BadWorkers,
@@ -24,6 +26,7 @@ pub enum Making {
 }
 
 // How it ended and the plan, which has no pieces and only zeros where none was made.
+#[derive(Drop)]
 pub struct Planned {
     pub making: Making,
     pub plan: Plan,
@@ -31,7 +34,7 @@ pub struct Planned {
 
 // Whether a piece starts at `at`, is not empty, is no longer than what is `left`, and divides by 16 if it is not the last.
 fn is_piece(start: usize, length: usize, at: usize, left: usize, last: bool) -> bool
-    ensures { λ r. ⌜ r ≡ isPiece start length at left last ⌝ }
+    ensures { result ≡ is_piece start length at left last }
 {
     if start != at {
         return false;
@@ -51,7 +54,7 @@ fn is_piece(start: usize, length: usize, at: usize, left: usize, last: bool) -> 
 // Whether the pieces are at most 64, follow one another from 0 to `n`, none is empty, and each length but the last divides by
 // 16. No sum passes `n`, so none wraps.
 pub fn accepts(plan: Plan, n: usize) -> bool
-    ensures { λ r. ⌜ r ≡ accepts plan n ⌝ }
+    ensures { result ≡ accepts plan n }
 {
     let count = plan.count;
     let starts = plan.starts;
@@ -75,8 +78,8 @@ pub fn accepts(plan: Plan, n: usize) -> bool
 
 // 1 where a piece begins before `n`, otherwise 0.
 fn begins(n: usize, at: usize) -> usize
-    ensures { λ r. ⌜ r ≡ begins n at ⌝ }
-    ensures { λ r. ⌜ r ≤ 1 ⌝ }
+    ensures value { result ≡ begins n at }
+    ensures upper_bound { result ≤ 1 }
 {
     if at < n {
         return 1;
@@ -86,7 +89,7 @@ fn begins(n: usize, at: usize) -> usize
 
 // Where the piece at `at` starts; 0 where none does.
 fn start_at(n: usize, at: usize) -> usize
-    ensures { λ r. ⌜ r ≡ startAt n at ⌝ }
+    ensures { result ≡ start_at n at }
 {
     if at < n {
         return at;
@@ -96,7 +99,7 @@ fn start_at(n: usize, at: usize) -> usize
 
 // How long the piece at `at` is, of `size` bytes or what is left of `n`.
 fn length_at(n: usize, size: usize, at: usize) -> usize
-    ensures { λ r. ⌜ r ≡ lengthAt n size at ⌝ }
+    ensures { result ≡ length_at n size at }
 {
     if at >= n {
         return 0;
@@ -110,8 +113,8 @@ fn length_at(n: usize, size: usize, at: usize) -> usize
 
 // The plan of `n` bytes in pieces of `size`, as many of 64 as begin before `n`.
 fn plan_in(n: usize, size: usize) -> Plan
-    requires { ⌜ size ≤ 2 * limit ⌝ }
-    ensures { λ r. ⌜ r ≡ planIn n size ⌝ }
+    requires { size ≤ 2 * limit }
+    ensures { result ≡ plan_in n size }
 {
     let mut starts = [0usize; MOST];
     let mut lengths = [0usize; MOST];
@@ -134,10 +137,10 @@ fn plan_in(n: usize, size: usize) -> Plan
 
 // The blocks of `n` bytes shared among the workers, rounded up, in bytes.
 fn piece_size(n: usize, workers: usize) -> usize
-    requires { ⌜ n ≤ limit ⌝ }
-    requires { ⌜ 1 ≤ workers ⌝ }
-    requires { ⌜ workers ≤ 64 ⌝ }
-    ensures { λ r. ⌜ r ≡ pieceSize n workers ⌝ }
+    requires n_le_limit { n ≤ limit }
+    requires le_workers { 1 ≤ workers }
+    requires workers_bound { workers ≤ 64 }
+    ensures { result ≡ piece_size n workers }
 {
     let blocks = (n + 15) / 16;
     16 * ((blocks + (workers - 1)) / workers)
@@ -145,7 +148,7 @@ fn piece_size(n: usize, workers: usize) -> usize
 
 // No plan: one of no pieces.
 fn without(making: Making) -> Planned
-    ensures { λ r. ⌜ r ≡ record { making = making; plan = noPieces } ⌝ }
+    ensures { result ≡ record { making = making; plan = no_pieces } }
 {
     let starts = [0usize; MOST];
     let lengths = [0usize; MOST];
@@ -159,7 +162,7 @@ fn without(making: Making) -> Planned
 
 // The plan of `n` bytes for 1 to 64 workers.
 pub fn make(n: usize, workers: usize) -> Planned
-    ensures { λ r. ⌜ r ≡ planned n workers ⌝ }
+    ensures { result ≡ planned n workers }
 {
     if workers == 0 {
         return without(Making::BadWorkers);

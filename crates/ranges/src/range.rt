@@ -1,22 +1,15 @@
 // Ctr from any byte on.
-ghost use mathlib.Core.Path.{_≡_};
-ghost use Prim.Native.Nat.{_+_, _≤_};
-ghost use lib.ListN.{length};
-ghost use Rattle·cipher.specs.Engine.{Engine};
-ghost use Rattle·block.specs.Over.{over};
-ghost use Rattle·cipher_mode.specs.Answer.{outcome};
-ghost use Rattle·ranges·specs.specs.Range.{stretch, reachCheck, rangeCall};
-use cipher_mode::CipherMode;
-use cipher_mode::Direction;
-use cipher_mode::KeyAnswer;
-use cipher_mode::Sm4Cipher;
-use cipher_mode::answer;
-use cipher_mode::answer::Answer;
-use cipher_mode::answer::Refusal;
+ghost use Rattle.std.specs.Prelude.{◌≡◌, ◌+◌, ◌≤◌, length};
+ghost use Rattle.cipher.specs.Engine.{Engine};
+ghost use Rattle.block.specs.Over.{over};
+ghost use Rattle.cipher_mode.specs.Answer.{outcome};
+ghost use Rattle.ranges.specs.Range.{stretch, reach_check, range_call};
+
+use cipher_mode::answer::{Answer, Refusal};
 use cipher_mode::checks::Checked;
-use pieces::checks;
-use pieces::flow;
+use cipher_mode::{CipherMode, Direction, KeyAnswer, Sm4Cipher, answer};
 use pieces::flow::Counting;
+use pieces::{checks, flow};
 
 // What is refused of key, IV and the end of a stretch. No sum wraps.
 pub(crate) fn reach(
@@ -27,7 +20,7 @@ pub(crate) fn reach(
     offset: usize,
     n: usize,
 ) -> Checked
-    ensures { λ r. ⌜ r ≡ reachCheck answer mark direction iv (offset + n) ⌝ }
+    ensures { result ≡ reach_check answer mark direction iv (offset + n) }
 {
     let first = cipher_mode::checks::key_and_iv(answer, mark, direction, CipherMode::Ctr, iv);
     let past = checks::past_limit(offset, n);
@@ -46,10 +39,10 @@ pub(crate) fn put_stretch(
     data: &[u8],
     out: &mut [u8],
 )
-    requires { ⌜ Engine (now t) ⌝ }
-    requires { ⌜ length (now iv) ≡ 16 ⌝ }
-    requires { ⌜ length (now «data») ≤ length (now out) ⌝ }
-    ensures { λ _. ⌜ now (out .exit) ≡ over (stretch rk (now (iv .entry)) offset (now («data» .entry))) (now (out .entry)) ⌝ }
+    requires engine { Engine t.now }
+    requires iv_len { length iv.now ≡ 16 }
+    requires data_in_bounds { length «data».now ≤ length out.old }
+    ensures { out.new ≡ over (stretch rk iv.now offset «data».now) out.old }
 {
     let first = counter::jump(block::split_block(iv), (offset / 16) as u64);
     let begun = flow::begin(t, rk, first);
@@ -58,9 +51,9 @@ pub(crate) fn put_stretch(
 
 // The same by the engine of a mark, whose table is laid out here, and lent to every block. Counters do not wait for one another.
 fn stretch_by(mark: u8, rk: [u32; 32], iv: &[u8], offset: usize, data: &[u8], out: &mut [u8])
-    requires { ⌜ length (now iv) ≡ 16 ⌝ }
-    requires { ⌜ length (now «data») ≤ length (now out) ⌝ }
-    ensures { λ _. ⌜ now (out .exit) ≡ over (stretch rk (now (iv .entry)) offset (now («data» .entry))) (now (out .entry)) ⌝ }
+    requires iv_len { length iv.now ≡ 16 }
+    requires data_in_bounds { length «data».now ≤ length out.old }
+    ensures { out.new ≡ over (stretch rk iv.now offset «data».now) out.old }
 {
     let engine = cipher::engine_of(mark, false);
     let t = cipher::laid_out(engine);
@@ -76,7 +69,7 @@ pub fn range(
     data: &[u8],
     out: &mut [u8],
 ) -> Answer
-    ensures { λ r. ⌜ outcome r (now (out .exit)) ≡ rangeCall direction cipher (now (iv .entry)) offset (now («data» .entry)) (now (out .entry)) ⌝ }
+    ensures { outcome result out.new ≡ range_call direction cipher iv.now offset «data».now out.old }
 {
     let stands = cipher.answer;
     let key = cipher_mode::number_in(stands, cipher.number);

@@ -1,34 +1,34 @@
 -- What every element of the field has is had by more than n elements, for each n below 2^128: the numbers up to n are that many.
-use Rattle·block.proofs.Base.{_-_, _<_, _^_, _≤_, suc, zero, ℕ, _≡_, ap, refl, ⊎-elim, List, List·Mem, List·Nodup, Pairwise·cons}
-use Rattle·block.proofs.Base.{Pairwise·nil, [], _∷_, mem-of-ne-of-mem, not-mem-nil, eq-zero-or-pos, lt-of-lt-of-le, arith, length}
-use Rattle·roots·specs.specs.AtMost.{Having, AtMost}
+use Rattle.block.proofs.Base.{◌-◌, ◌<◌, ◌^◌, ◌≤◌, suc, zero, ℕ, ◌≡◌, ap, refl, ⊎_elim, List, Mem, Nodup, PairwiseCons}
+use Rattle.block.proofs.Base.{PairwiseNil, [], ◌∷◌, mem_of_ne_of_mem, not-mem-nil, eq-zero-or-pos, lt_of_lt_of_le, arith, length}
+use Rattle.roots.specs.AtMost.{Having, AtMost}
 
-numbersTo : ℕ → List ℕ
-numbersTo zero = []
-numbersTo (suc n) = n ∷ numbersTo n
+numbers_to : ℕ → List ℕ
+numbers_to zero = []
+numbers_to (suc n) = n ∷ numbers_to n
 
-numbersTo-length : (n : ℕ) → length (numbersTo n) ≡ n
-unfolding numbersTo
-numbersTo-length zero = refl
-numbersTo-length (suc n) = ap suc (numbersTo-length n)
+numbers_to_length : (n : ℕ) → length (numbers_to n) ≡ n
+unfolding numbers_to
+numbers_to_length zero = refl
+numbers_to_length (suc n) = ap suc (numbers_to_length n)
 
-numbersTo-lt : (n h : ℕ) → List·Mem h (numbersTo n) → h < n
-unfolding numbersTo
-numbersTo-lt zero h m = absurd (not-mem-nil m)
-numbersTo-lt (suc n) h m =
-    ⊎-elim (λ z. omega (arith, z))
-    (λ p. let k = numbersTo-lt n h (mem-of-ne-of-mem (λ e. omega (arith, p, e)) m) in omega arith)
+numbers_to_lt : (n h : ℕ) → Mem h (numbers_to n) → h < n
+unfolding numbers_to
+numbers_to_lt zero h m = absurd (not-mem-nil m)
+numbers_to_lt (suc n) h m =
+    ⊎_elim (λ z. omega (arith, z))
+    (λ p. let k = numbers_to_lt n h (mem_of_ne_of_mem (λ e. omega (arith, p, e)) m) in omega arith)
     (eq-zero-or-pos (h - n))
 
-numbersTo-different : (n : ℕ) → List·Nodup (numbersTo n)
-unfolding numbersTo
-numbersTo-different zero = Pairwise·nil
-numbersTo-different (suc n) =
-    Pairwise·cons {a = n} {l = numbersTo n} (λ h m e. omega (arith, numbersTo-lt n h m, e)) (numbersTo-different n)
+numbers_to_different : (n : ℕ) → Nodup (numbers_to n)
+unfolding numbers_to
+numbers_to_different zero = PairwiseNil
+numbers_to_different (suc n) =
+    PairwiseCons {a = n} {l = numbers_to n} (λ h m e. omega (arith, numbers_to_lt n h m, e)) (numbers_to_different n)
 
-pub more-have : (P : ℕ → Type 0) → ((h : ℕ) → P h) → (n : ℕ) → n < 2 ^ 128 → ¬ AtMost n P
-more-have P all n l few =
-    let g : Having P (numbersTo (suc n)) =
-    record { different = numbersTo-different (suc n); each = λ h m. (lt-of-lt-of-le (numbersTo-lt (suc n) h m) l, all h) } in
-    let k : suc n ≤ n = rw numbersTo-length at (few (numbersTo (suc n)) g) in
+pub more_have : (P : ℕ → Type 0) → ((h : ℕ) → P h) → (n : ℕ) → n < 2 ^ 128 → ¬ AtMost n P
+more_have P all n l few =
+    let g : Having P (numbers_to (suc n)) =
+    record { different = numbers_to_different (suc n); each = λ h m. (lt_of_lt_of_le (numbers_to_lt (suc n) h m) l, all h) } in
+    let k : suc n ≤ n = rw numbers_to_length at (few (numbers_to (suc n)) g) in
     omega arith

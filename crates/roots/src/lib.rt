@@ -2,3 +2,5 @@
 //
 // The hash is a polynomial in H by Horner's rule. Of two lists of blocks the shorter is filled up with blocks of zeros in front, which
 // change no hash; the length block at the end still tells the two apart.
+
+#![tactic(auto)]

@@ -1,38 +1,38 @@
 // Up to 512 blocks side by side. Each stands in two halves of 64 bits, in one row of one column of two arrays: eight columns of 64
 // rows. A column is a square matrix of bits, and transposing all columns makes lanes of the blocks: each word then has one and the
 // same bit of 64 blocks.
-ghost use mathlib.Core.Path.{_≡_};
-ghost use mathlib.Core.List.{List, _++_};
-ghost use Prim.Native.Nat.{ℕ, _+_, _*_, _^_, _<_, _≤_};
-ghost use lib.ListN.{length, take, drop, getD};
-ghost use Rattle·block.specs.BigEndian.{bytesOf};
-ghost use Rattle·block.specs.Blocks.{blockAt};
-ghost use Rattle·block.specs.Words.{words};
-ghost use Rattle·block.specs.Over.{over};
-ghost use Rattle·rows·specs.specs.Rows.{place, Sized, Rows, xoredBlocks};
-ghost use Rattle·lanes.specs.Swaps.{firstSwapped, secondSwapped};
-ghost use Rattle·rows·specs.specs.Transposed.{Swapped, Staged, Turned};
+
+#![tactic(auto)]
+
+ghost use Rattle.std.specs.Prelude.{◌≡◌, List, ◌++◌, ℕ, ◌+◌, ◌*◌, ◌^◌, ◌<◌, ◌≤◌, length, take, drop, get_or};
+ghost use Rattle.block.specs.BigEndian.{bytes_of};
+ghost use Rattle.block.specs.Blocks.{block_at};
+ghost use Rattle.block.specs.Words.{words};
+ghost use Rattle.block.specs.Over.{over};
+ghost use Rattle.rows.specs.Rows.{place, Sized, Rows, xored_blocks};
+ghost use Rattle.lanes.specs.Swaps.{first_swapped, second_swapped};
+ghost use Rattle.rows.specs.Transposed.{Swapped, Staged, Turned};
 
 // x, once its bits have changed places with those of y that stand d lower, where the mask m has them.
 fn first_swapped(x: u64, y: u64, d: usize, m: u64) -> u64
-    requires { ⌜ d < 64 ⌝ }
-    ensures { λ r. ⌜ r ≡ firstSwapped d m x y ⌝ }
+    requires { d < 64 }
+    ensures { result ≡ first_swapped d m x y }
 {
     x ^ ((((x >> d) ^ y) & m) << d)
 }
 
 // And y.
 fn second_swapped(x: u64, y: u64, d: usize, m: u64) -> u64
-    requires { ⌜ d < 64 ⌝ }
-    ensures { λ r. ⌜ r ≡ secondSwapped d m x y ⌝ }
+    requires { d < 64 }
+    ensures { result ≡ second_swapped d m x y }
 {
     y ^ (((x >> d) ^ y) & m)
 }
 
 // Swaps bits of the w words from g on with bits of the w words after these: bit c + d with bit c, where the mask m has bit c.
 fn swap_bits(a: &mut [u64; 512], g: usize, w: usize, d: usize, m: u64)
-    requires { ⌜ (length (now a) ≡ 512) × (g + w + w ≤ 512) × (d < 64) ⌝ }
-    ensures { λ _. ⌜ Swapped d m g w w (now (a .entry)) (now (a .exit)) ⌝ }
+    requires { (length a.old ≡ 512) × (g + w + w ≤ 512) × (d < 64) }
+    ensures { Swapped d m g w w a.old a.new }
 {
     let mut e: usize = 0;
     while e < w {
@@ -46,8 +46,8 @@ fn swap_bits(a: &mut [u64; 512], g: usize, w: usize, d: usize, m: u64)
 
 // The same for n groups of 2 w words, which are all words.
 fn stage(a: &mut [u64; 512], n: usize, w: usize, d: usize, m: u64)
-    requires { ⌜ (length (now a) ≡ 512) × (2 * w * n ≡ 512) × (w ≤ 256) × (d < 64) ⌝ }
-    ensures { λ _. ⌜ Staged d m w n (now (a .entry)) (now (a .exit)) ⌝ }
+    requires { (length a.old ≡ 512) × (2 * w * n ≡ 512) × (w ≤ 256) × (d < 64) }
+    ensures { Staged d m w n a.old a.new }
 {
     let mut i: usize = 0;
     while i < n {
@@ -58,8 +58,8 @@ fn stage(a: &mut [u64; 512], n: usize, w: usize, d: usize, m: u64)
 
 // Transposes the eight columns: six stages, each of which swaps one binary digit of a row's number with that of a bit's number.
 pub fn transpose(a: &mut [u64; 512])
-    requires { ⌜ length (now a) ≡ 512 ⌝ }
-    ensures { λ _. ⌜ Turned (now (a .entry)) (now (a .exit)) × (length (now (a .exit)) ≡ 512) × ((p : ℕ) → getD (now (a .exit)) p 0 < 2 ^ 64) ⌝ }
+    requires { length a.old ≡ 512 }
+    ensures { Turned a.old a.new × (length a.new ≡ 512) × ((p : ℕ) → get_or a.new p 0 < 2 ^ 64) }
 {
     stage(a, 1, 256, 32, 0x0000_0000_ffff_ffff);
     stage(a, 2, 128, 16, 0x0000_ffff_0000_ffff);
@@ -71,25 +71,25 @@ pub fn transpose(a: &mut [u64; 512])
 
 // The half of two words.
 fn half(high: u32, low: u32) -> u64
-    ensures { λ r. ⌜ r ≡ high * 2 ^ 32 + low ⌝ }
+    ensures { result ≡ high * 2 ^ 32 + low }
 {
     (high as u64) << 32 | low as u64
 }
 
 // Where block i stands.
 fn place_of(i: usize) -> usize
-    requires { ⌜ i < 512 ⌝ }
-    ensures { λ r. ⌜ r ≡ place i ⌝ }
+    requires { i < 512 }
+    ensures { result ≡ place i }
 {
     8 * (i % 64) + i / 64
 }
 
 // The block x as block i.
 fn put(a: &mut [u64; 512], b: &mut [u64; 512], i: usize, x: [u32; 4])
-    requires { ⌜ i < 512 ⌝ }
-    requires { ⌜ Sized (now a) (now b) ⌝ }
-    ensures { λ _. ⌜ ((f : ℕ → List ℕ) → Rows i f (now (a .entry)) (now (b .entry)) → f i ≡ x → Rows (i + 1) f (now (a .exit)) (now (b .exit))) ⌝ }
-    ensures { λ _. ⌜ Sized (now (a .exit)) (now (b .exit)) ⌝ }
+    requires i_bound { i < 512 }
+    requires sized { Sized a.old b.old }
+    ensures by_index { (f : ℕ → List ℕ) → Rows i f a.old b.old → f i ≡ x → Rows (i + 1) f a.new b.new }
+    ensures sized_2 { Sized a.new b.new }
 {
     let p = place_of(i);
     a[p] = half(x[0], x[1]);
@@ -98,9 +98,9 @@ fn put(a: &mut [u64; 512], b: &mut [u64; 512], i: usize, x: [u32; 4])
 
 // The first m blocks of `src`.
 pub fn load(src: &[u8], m: usize, a: &mut [u64; 512], b: &mut [u64; 512])
-    requires { ⌜ (m ≤ 512) × (16 * m ≤ length (now src)) ⌝ }
-    requires { ⌜ Sized (now a) (now b) ⌝ }
-    ensures { λ _. ⌜ Rows m (λ i. words (blockAt (now (src .entry)) i)) (now (a .exit)) (now (b .exit)) ⌝ }
+    requires m_bound { (m ≤ 512) × (16 * m ≤ length src.now) }
+    requires sized { Sized a.old b.old }
+    ensures { Rows m (λ i. words (block_at src.now i)) a.new b.new }
 {
     let mut i: usize = 0;
     while i < m {
@@ -111,8 +111,8 @@ pub fn load(src: &[u8], m: usize, a: &mut [u64; 512], b: &mut [u64; 512])
 
 // The eight bytes of x. From one u64 they become one store.
 fn put_half(out: &mut [u8], at: usize, x: u64)
-    requires { ⌜ at + 8 ≤ length (now out) ⌝ }
-    ensures { λ _. ⌜ now (out .exit) ≡ take at (now (out .entry)) ++ (bytesOf 8 x ++ drop (at + 8) (now (out .entry))) ⌝ }
+    requires { at + 8 ≤ length out.old }
+    ensures { out.new ≡ take at out.old ++ (bytes_of 8 x ++ drop (at + 8) out.old) }
 {
     out[at] = ((x >> 56) % 256) as u8;
     out[at + 1] = ((x >> 48) % 256) as u8;
@@ -126,9 +126,9 @@ fn put_half(out: &mut [u8], at: usize, x: u64)
 
 // The first m blocks, each xored with its block of `with`, to the front of `out`.
 pub fn store_xored(a: &[u64; 512], b: &[u64; 512], m: usize, with: &[u8], out: &mut [u8])
-    requires { ⌜ (m ≤ 512) × (16 * m ≤ length (now «with»)) × (16 * m ≤ length (now out)) ⌝ }
-    requires { ⌜ Sized (now a) (now b) ⌝ }
-    ensures { λ _. ⌜ ((f : ℕ → List ℕ) → Rows m f (now (a .entry)) (now (b .entry)) → now (out .exit) ≡ over (xoredBlocks m (now («with» .entry)) f) (now (out .entry))) ⌝ }
+    requires m_bound { (m ≤ 512) × (16 * m ≤ length «with».now) × (16 * m ≤ length out.old) }
+    requires sized { Sized a.now b.now }
+    ensures { (f : ℕ → List ℕ) → Rows m f a.now b.now → out.new ≡ over (xored_blocks m «with».now f) out.old }
 {
     let mut i: usize = 0;
     while i < m {

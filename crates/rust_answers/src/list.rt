@@ -1,6 +1,5 @@
 // The list of recorded answers: its head and its records.
-ghost use Prim.Native.Nat.{_<_, _≤_};
-ghost use lib.ListN.{length};
+ghost use Rattle.std.specs.Prelude.{◌<◌, ◌≤◌, length};
 
 // The bytes before the first record: the mark and the count.
 pub const HEAD: usize = 24;
@@ -10,22 +9,22 @@ pub const HEAD: usize = 24;
 const FIXED: usize = 24;
 
 pub fn wide(x: u8) -> usize
-    ensures { λ r. ⌜ r < 256 ⌝ }
+    ensures { result < 256 }
 {
     x as usize
 }
 
 // What stands at `i`, 0 past the end.
 pub fn byte(s: &[u8], i: usize) -> usize
-    ensures { λ r. ⌜ r < 256 ⌝ }
+    ensures { result < 256 }
 {
     if i < s.len() { wide(s[i]) } else { 0 }
 }
 
 // The big-endian number in four bytes near the front.
 fn number(s: &[u8], at: usize) -> usize
-    requires { ⌜ at < 256 ⌝ }
-    ensures { λ r. ⌜ r < 4294967296 ⌝ }
+    requires { at < 256 }
+    ensures { result < 4294967296 }
 {
     byte(s, at) * 0x100_0000
         + byte(s, at + 1) * 0x1_0000
@@ -46,7 +45,7 @@ pub fn count(list: &[u8]) -> u64 {
 
 // Where field i of the record in front starts; the record ends where the sixth would.
 fn start(rest: &[u8], i: usize) -> usize
-    requires { ⌜ i < 6 ⌝ }
+    requires { i < 6 }
 {
     let mut at = FIXED;
     for before in 0..i {
@@ -57,7 +56,7 @@ fn start(rest: &[u8], i: usize) -> usize
 
 // How many bytes the record in front has; 0 where it is cut.
 pub fn size(rest: &[u8]) -> usize
-    ensures { λ r. ⌜ r ≤ length (now (rest .entry)) ⌝ }
+    ensures { result ≤ length rest.now }
 {
     let size = start(rest, 5);
     if rest.len() < size { 0 } else { size }
@@ -65,7 +64,7 @@ pub fn size(rest: &[u8]) -> usize
 
 // Field i of the record in front: 0 key, 1 IV, 2 label, 3 data, 4 output.
 pub fn field(rest: &[u8], i: usize) -> &[u8]
-    requires { ⌜ i < 5 ⌝ }
+    requires { i < 5 }
 {
     let from = start(rest, i);
     let to = start(rest, i + 1);

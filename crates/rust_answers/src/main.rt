@@ -5,16 +5,16 @@
 // every byte past the length is as it was lent; and, of a 12-byte IV in Gcm, which libsm refuses and ours
 // takes, and of a padding that libsm takes by its last byte alone and ours refuses, where ours does just that.
 // README.md beside this crate's folders has the form of the file and what its parts are.
+
+#![tactic(auto)]
+
 mod list;
 
-ghost use Prim.Native.Nat.{_<_};
-use cipher_mode::Direction;
-use cipher_mode::Sm4Cipher;
-use cipher_mode::Sm4CipherMode;
-use cipher_mode::answer;
-use cipher_mode::answer::Answer;
-use cipher_mode::answer::Ending;
-use libc::STDOUT_FILENO;
+ghost use Rattle.std.specs.Prelude.{◌<◌};
+
+use cipher_mode::answer::{Answer, Ending};
+use cipher_mode::{Direction, Sm4Cipher, Sm4CipherMode, answer};
+use std::{env, fs, io};
 
 // The number of every key here: libsm's keys have none, and ours want one.
 const NUMBER: u16 = 1;
@@ -39,6 +39,7 @@ const SEALED: usize = 8;
 const MAY: [u32; 10] = [0x1, 0xc02, 0x4, 0x8, 0x10, 0x300, 0, 0x8000, 0x1, 0x10];
 
 // A call's answer: number, missing count, the key's number and length.
+#[derive(Clone, Copy)]
 pub struct Told {
     pub number: u32,
     pub missing: u8,
@@ -47,6 +48,7 @@ pub struct Told {
 }
 
 // The counts so far: of the part that is being replayed, and how many records differ in all.
+#[derive(Clone, Copy)]
 pub struct Tally {
     pub part: usize,
     pub replayed: u64,
@@ -56,7 +58,7 @@ pub struct Tally {
 
 // The row of MAY for a record.
 fn row(part: usize, direction: usize, name: usize) -> usize
-    ensures { λ r. ⌜ r < 10 ⌝ }
+    ensures { result < 10 }
 {
     if part == INNER_PADDING {
         return 7;
@@ -69,7 +71,7 @@ fn row(part: usize, direction: usize, name: usize) -> usize
 
 // Whether an answer may have this number.
 fn may(row: usize, number: u32) -> bool
-    requires { ⌜ row < 10 ⌝ }
+    requires { row < 10 }
 {
     let numbers = MAY;
     (numbers[row] >> number % 32) % 2 == 1
@@ -90,7 +92,7 @@ fn key_in(number: u32) -> u16 {
 
 // Whether an answer has a number that it may have, and missing count and key's number go with it.
 fn is_due(row: usize, told: Told, data: usize) -> bool
-    requires { ⌜ row < 10 ⌝ }
+    requires { row < 10 }
 {
     may(row, told.number)
         && list::wide(told.missing) == lacks(told.number, data)
@@ -231,74 +233,65 @@ fn agrees(record: &[u8]) -> bool {
     agrees_on(0, record) && agrees_on(1, record) && agrees_on(2, record) && agrees_on(3, record)
 }
 
-// Writes some words.
-fn said(words: &[u8]) {
-    io::write_all(STDOUT_FILENO, words);
-}
-
 // Writes how many were replayed and how many of them differ.
-fn write_counts(replayed: u64, differ: u64) {
-    io::print_decimal(STDOUT_FILENO, replayed);
-    said(b" replayed ");
-    io::print_decimal(STDOUT_FILENO, differ);
-    said(b" differ\n");
+fn write_counts(rt: &HostRuntime, replayed: u64, differ: u64) -> io::Result<()> {
+    println!(rt; "{replayed} replayed {differ} differ")
 }
 
-// Writes the line of a part that has records, by its name: the argument that is one behind its number.
-fn write_part(tally: Tally) {
+// Writes the line of a part that has records, by its name: the argument behind the file's that has its number.
+fn write_part(rt: &HostRuntime, names: &[String], tally: Tally) -> io::Result<()> {
     if tally.replayed == 0 {
-        return;
+        return Ok(());
     }
-    let mut name = io::buffer();
-    let n = os::arg(tally.part % 256 + 1, &mut name);
-    said(&name[..n]);
-    said(b": ");
-    write_counts(tally.replayed, tally.differ);
+    if let Some(name) = names.get(tally.part % 256) {
+        print!(rt; "{name}")?;
+    }
+    print!(rt; ": ")?;
+    write_counts(rt, tally.replayed, tally.differ)
 }
 
 // The counts with one record more; a part's line is written where the next part starts. They stay far below what a u64 holds.
-fn counted(tally: Tally, part: usize, differs: u64) -> Tally {
-    let all = std::num::wrapping_add_u64(tally.all, differs);
+fn counted(
+    rt: &HostRuntime,
+    names: &[String],
+    tally: Tally,
+    part: usize,
+    differs: u64,
+) -> io::Result<Tally> {
+    let all = tally.all.wrapping_add(differs);
     if part == tally.part {
-        return Tally {
+        return Ok(Tally {
             part,
-            replayed: std::num::wrapping_add_u64(tally.replayed, 1),
-            differ: std::num::wrapping_add_u64(tally.differ, differs),
+            replayed: tally.replayed.wrapping_add(1),
+            differ: tally.differ.wrapping_add(differs),
             all,
-        };
+        });
     }
-    write_part(tally);
-    Tally {
+    write_part(rt, names, tally)?;
+    Ok(Tally {
         part,
         replayed: 1,
         differ: differs,
         all,
-    }
-}
-
-// Writes words around a record's number.
-fn write_record(before: &[u8], record: u64, after: &[u8]) {
-    said(before);
-    io::print_decimal(STDOUT_FILENO, record);
-    said(after);
+    })
 }
 
 // 1 where the record in front differs, which is said, else 0.
-fn differs(record: &[u8], number: u64) -> u64 {
+fn differs(rt: &HostRuntime, record: &[u8], number: u64) -> io::Result<u64> {
     if agrees(record) {
-        return 0;
+        return Ok(0);
     }
-    write_record(b"record ", number, b" differs\n");
-    1
+    println!(rt; "record {number} differs")?;
+    Ok(1)
 }
 
 // Writes of a record that the list is cut there.
-fn write_cut(number: u64) {
-    write_record(b"the list is cut at record ", number, b"\n");
+fn write_cut(rt: &HostRuntime, number: u64) -> io::Result<()> {
+    println!(rt; "the list is cut at record {number}")
 }
 
 // Replays the whole list and writes how it went.
-fn replay_all(file: &[u8]) {
+fn replay_all(rt: &HostRuntime, names: &[String], file: &[u8]) -> io::Result<()> {
     let count = list::count(file);
     let mut tally = Tally {
         part: 0,
@@ -310,43 +303,36 @@ fn replay_all(file: &[u8]) {
     let mut seen: u64 = 0;
     while seen < count {
         if file.len() < at {
-            return;
+            return Ok(());
         }
         let record = &file[at..];
         let size = list::size(record);
         seen += 1;
         if size == 0 {
-            write_cut(seen);
-            return;
+            return write_cut(rt, seen);
         }
-        let next = counted(tally, list::byte(record, 0), differs(record, seen));
-        tally = next;
+        let differ = differs(rt, record, seen)?;
+        tally = counted(rt, names, tally, list::byte(record, 0), differ)?;
         at += size;
     }
-    write_part(tally);
-    write_counts(seen, tally.all);
+    write_part(rt, names, tally)?;
+    write_counts(rt, seen, tally.all)
 }
 
-// Room for the whole list.
-fn room() -> [u8; 1_000_000] {
-    [0u8; 1_000_000]
-}
+// No more of the file is looked at.
+const MOST: usize = 1_000_000;
 
-// Reads the list and replays it.
-fn read_and_replay(fd: i32) {
-    let mut file = room();
-    let length = io::read_full(fd, &mut file);
-    replay_all(&file[..length]);
-}
-
-fn main() {
-    let mut path = io::buffer();
-    let n = os::arg(1, &mut path);
-    let fd = os::open_read(&path[..n]);
-    if fd < 0 {
-        os::fail(&path[..n]);
-        return;
+fn main(rt: HostRuntime) -> io::Result<()> {
+    let alloc = rt.alloc();
+    let mut names = Vec::new(alloc);
+    for argument in env::args(&rt)?.skip(1) {
+        names.push(argument)?;
     }
-    read_and_replay(fd);
-    libc::close(fd);
+    let path = match names.first() {
+        Some(path) => path.as_str(),
+        None => "",
+    };
+    let file = fs::read(&rt, path)?;
+    let n = file.len().min(MOST);
+    replay_all(&rt, names.as_slice(), &file.as_slice()[..n])
 }

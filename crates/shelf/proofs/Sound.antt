@@ -1,128 +1,128 @@
 -- Where a shelf breaks off: all is in order where no job has two current records, and otherwise less than all; so a shelf is bad
 -- exactly where it is not in order up to its used count.
-use Rattle·shelf·proofs.proofs.Names.{AreBytes, Head, InOrder, List, Record, [], _&&_, _++_, _+_, _-_, _<_, _∙_, _∷_, _≡_, _≤_, and-left}
-use Rattle·shelf·proofs.proofs.Names.{and-right, ap, append-assoc, append-nil, ap₂, arith, badShelf, below-drop, below-take, by-test, drop}
-use Rattle·shelf·proofs.proofs.Names.{eq-eqb, eqb, eqb-true, false, hasCurrent, headAt, isCurrentOf, le-ltb, length, length-append}
-use Rattle·shelf·proofs.proofs.Names.{length-take-le, ltb, ltb-false, ne-eqb, not, not-false, or-false, or-true, records, refl, soundFrom}
-use Rattle·shelf·proofs.proofs.Names.{soundUpTo, stored, sub-zero, sym, take, take-add, take-length, those, true, twoCurrent, written}
-use Rattle·shelf·proofs.proofs.Names.{zero-add, ℕ}
-use Rattle·shelf·proofs.proofs.Reading.{length-written, records-empty}
-use Rattle·shelf·proofs.proofs.ReadsProper.{between, Turn, entry, at-end, stored-records, records-stored, more-proper, records-proper}
-use Rattle·shelf·proofs.proofs.ReadsProper.{stored-within}
-use Rattle·shelf·proofs.proofs.Walks.{none-current, or-left, or-right}
-use Rattle·shelf·proofs.proofs.Putting.{stored-new, those-append}
-use Rattle·shelf·proofs.proofs.Current.{current-none, own-current, at-most-one, no-two}
+use Rattle.shelf.proofs.Names.{AreBytes, Head, InOrder, List, Record, [], ◌&&◌, ◌++◌, ◌+◌, ◌-◌, ◌<◌, ◌∙◌, ◌∷◌, ◌≡◌, ◌≤◌, and_left}
+use Rattle.shelf.proofs.Names.{and_right, ap, append_assoc, append-nil, ap₂, arith, bad_shelf, below-drop, below-take, by_test, drop}
+use Rattle.shelf.proofs.Names.{eq-eqb, eqb, eqb-true, false, has_current, head_at, is_current_of, le-ltb, length, length-append}
+use Rattle.shelf.proofs.Names.{length-take-le, ltb, ltb-false, ne_eqb, not, not-false, or-false, or-true, records, refl, sound_from}
+use Rattle.shelf.proofs.Names.{sound_up_to, stored, sub-zero, sym, take, take-add, take-length, those, true, two_current, written}
+use Rattle.shelf.proofs.Names.{zero-add, ℕ}
+use Rattle.shelf.proofs.Reading.{length-written, records-empty}
+use Rattle.shelf.proofs.ReadsProper.{between, Turn, entry, at-end, stored-records, records-stored, more_proper, records-proper}
+use Rattle.shelf.proofs.ReadsProper.{stored-within}
+use Rattle.shelf.proofs.Walks.{none-current, or_left, or_right}
+use Rattle.shelf.proofs.Putting.{stored-new, those-append}
+use Rattle.shelf.proofs.Current.{current-none, own_current, at_most_one, no_two}
 
 -- it is no second one
-first : (passed : List Record) (r : Record) (rs : List Record) → twoCurrent (passed ++ (r ∷ rs)) ≡ false
-    → r .current && hasCurrent (r .job) passed ≡ false
+first : (passed : List Record) (r : Record) (rs : List Record) → two_current (passed ++ (r ∷ rs)) ≡ false
+    → r.current && has_current r.job passed ≡ false
 unfolding those
 first passed r rs f =
-    by-test (r .current)
+    by_test r.current
     (λ e.
-    let all = rw (those-append, length-append, own-current r e) at (at-most-one (passed ++ (r ∷ rs)) f (r .job)) in
-    rw e (current-none (r .job) passed (omega arith)))
+    let all = rw (those-append, length-append, own_current r e) at (at_most_one (passed ++ (r ∷ rs)) f r.job) in
+    rw e (current-none r.job passed (omega arith)))
     (λ e. rw e)
 
-sound-all : (passed rs : List Record) → twoCurrent (passed ++ rs) ≡ false → soundFrom passed rs ≡ length (stored rs)
-unfolding soundFrom stored
-sound-all passed [] e = refl
-sound-all passed (r ∷ rs) e =
-    rw (first passed r rs e, sound-all (passed ++ (r ∷ [])) rs (rw append-assoc e)) (sym (length-append (written r) (stored rs)))
+sound_all : (passed rs : List Record) → two_current (passed ++ rs) ≡ false → sound_from passed rs ≡ length (stored rs)
+unfolding sound_from stored
+sound_all passed [] e = refl
+sound_all passed (r ∷ rs) e =
+    rw (first passed r rs e, sound_all (passed ++ (r ∷ [])) rs (rw append_assoc e)) (sym (length-append (written r) (stored rs)))
 
 -- one more, that is no second one
-still-single : (passed : List Record) (r : Record) → twoCurrent passed ≡ false → r .current && hasCurrent (r .job) passed ≡ false
-    → twoCurrent (passed ++ (r ∷ [])) ≡ false
+still_single : (passed : List Record) (r : Record) → two_current passed ≡ false → r.current && has_current r.job passed ≡ false
+    → two_current (passed ++ (r ∷ [])) ≡ false
 unfolding those
-still-single passed r e f =
-    no-two (passed ++ (r ∷ []))
+still_single passed r e f =
+    no_two (passed ++ (r ∷ []))
     (λ job. rw (those-append, length-append)
-    (by-test (isCurrentOf job r)
+    (by_test (is_current_of job r)
     (λ g.
-    let same : r .job ≡ job = eqb-true (r .job) job (and-right (r .current) _ g) in
-    let none : hasCurrent job passed ≡ false = rw (and-left (r .current) _ g, same) at f in
+    let same : r.job ≡ job = eqb-true r.job job (and_right r.current _ g) in
+    let none : has_current job passed ≡ false = rw (and_left r.current _ g, same) at f in
     rw (g, none-current job passed none) (omega arith))
-    (λ g. rw g (omega (arith, at-most-one passed e job)))))
+    (λ g. rw g (omega (arith, at_most_one passed e job)))))
 
-sound-less : (passed rs : List Record) → twoCurrent passed ≡ false → twoCurrent (passed ++ rs) ≡ true
-    → soundFrom passed rs < length (stored rs)
-unfolding soundFrom stored
-sound-less passed [] e f =
+sound_less : (passed rs : List Record) → two_current passed ≡ false → two_current (passed ++ rs) ≡ true
+    → sound_from passed rs < length (stored rs)
+unfolding sound_from stored
+sound_less passed [] e f =
     let g = rw append-nil at f in
-    let z : _≡_ {A = ℕ} 0 1 = cc in absurd (omega arith)
-sound-less passed (r ∷ rs) e f =
-    by-test (r .current && hasCurrent (r .job) passed) (λ g. rw (g, length-append) (omega (arith, length-written r)))
+    let z : ◌≡◌ {A = ℕ} 0 1 = cc in absurd (omega arith)
+sound_less passed (r ∷ rs) e f =
+    by_test (r.current && has_current r.job passed) (λ g. rw (g, length-append) (omega (arith, length-written r)))
     (λ g.
-    let more = sound-less (passed ++ (r ∷ [])) rs (still-single passed r e g) (rw append-assoc f) in
+    let more = sound_less (passed ++ (r ∷ [])) rs (still_single passed r e g) (rw append_assoc f) in
     rw (g, length-append) (omega arith))
 
 -- how far a walk that looks back has come: `at` bytes are passed, all of them records
 pub record Passing (s : List ℕ) (at : ℕ) : Type 0 where
   pub within : at ≤ length s
   pub whole : length (stored (records (take at s))) ≡ at
-  pub sum : at + soundFrom (records (take at s)) (records (between at (length s) s)) ≡ soundUpTo (records s)
+  pub sum : at + sound_from (records (take at s)) (records (between at (length s) s)) ≡ sound_up_to (records s)
 
-pub passing-starts : (s : List ℕ) → Passing s 0
+pub passing_starts : (s : List ℕ) → Passing s 0
 unfolding stored
-passing-starts s =
+passing_starts s =
     record { within = omega arith; whole = rw records-empty; sum = rw (records-empty, sub-zero, take-length, zero-add) }
 
 module _ {s : List ℕ} {at : ℕ} (p : Passing s at) where
-  pub passed-all : {h : Head} → h ≡ headAt (between at (length s) s) → h .size ≡ 0 → at ≡ soundUpTo (records s)
-  unfolding soundFrom
-  passed-all e z = omega (arith, rw (at-end s (length s) at _ e z) at (p .sum))
+  pub passed_all : {h : Head} → h ≡ head_at (between at (length s) s) → h.size ≡ 0 → at ≡ sound_up_to (records s)
+  unfolding sound_from
+  passed_all e z = omega (arith, rw (at-end s (length s) at _ e z) at p.sum)
 
   module _ {h : Head} (turn : Turn s (length s) at h) where
-    pub second : h .current && hasCurrent (h .job) (records (take at s)) ≡ true → at ≡ soundUpTo (records s)
-    unfolding soundFrom
-    second e = omega (arith, rw (turn .reads, e) at (p .sum))
+    pub second : h.current && has_current h.job (records (take at s)) ≡ true → at ≡ sound_up_to (records s)
+    unfolding sound_from
+    second e = omega (arith, rw (turn.reads, e) at p.sum)
 
     -- the records passed, with this one
     module _ (small : AreBytes s) where
-      passed-more : records (take (at + h .size) s) ≡ records (take at s) ++ (entry (between at (length s) s) h ∷ [])
-      passed-more =
+      passed_more : records (take (at + h.size) s) ≡ records (take at s) ++ (entry (between at (length s) s) h ∷ [])
+      passed_more =
           let P = records (take at s) in
           let passed = below-take 256 at s small in
           let here = below-take 256 (length s - at) (drop at s) (below-drop 256 at s small) in
-          let before = stored-records (take at s) passed (p .whole ∙ sym (length-take-le at s (p .within))) in
-          ap records (take-add at (h .size) s ∙ ap₂ _++_ (sym before) (sym (turn .bytes here)) ∙ sym (stored-new _ P))
-          ∙ records-stored _ (more-proper P (records-proper (take at s) passed) (turn .proper here))
+          let before = stored-records (take at s) passed (p.whole ∙ sym (length-take-le at s p.within)) in
+          ap records (take-add at h.size s ∙ ap₂ ◌++◌ (sym before) (sym (turn.bytes here)) ∙ sym (stored-new _ P))
+          ∙ records-stored _ (more_proper P (records-proper (take at s) passed) (turn.proper here))
 
-      pub passing-on : h .current && hasCurrent (h .job) (records (take at s)) ≡ false → Passing s (at + h .size)
-      unfolding soundFrom
-      passing-on f =
+      pub passing_on : h.current && has_current h.job (records (take at s)) ≡ false → Passing s (at + h.size)
+      unfolding sound_from
+      passing_on f =
           record {
-            within = turn .inside;
-            whole = rw (passed-more, stored-new, length-append, p .whole, turn .whole);
-            sum = rw passed-more (omega (arith, rw (turn .reads, f, turn .whole) at (p .sum)));
+            within = turn.inside;
+            whole = rw (passed_more, stored-new, length-append, p.whole, turn.whole);
+            sum = rw passed_more (omega (arith, rw (turn.reads, f, turn.whole) at p.sum));
           }
 
 module _ (shelf : List ℕ) (used : ℕ) where
   pub bad-records : AreBytes shelf → length shelf ≤ 65536 → used ≤ length shelf
-      → not (eqb (soundUpTo (records (take used shelf))) used) ≡ badShelf shelf used
-  unfolding badShelf twoCurrent
+      → not (eqb (sound_up_to (records (take used shelf))) used) ≡ bad_shelf shelf used
+  unfolding bad_shelf two_current
   bad-records small h k =
       let rs = records (take used shelf) in
       let n = stored-within (take used shelf) (below-take 256 used shelf small) in
       let l : length (take used shelf) ≡ used = length-take-le used shelf k in
       rw (le-ltb 65536 (length shelf) h, le-ltb (length shelf) used k)
-      (by-test (twoCurrent rs)
-      (λ e. let less = sound-less [] rs refl e in rw (e, ne-eqb (soundUpTo rs) used (λ f. omega arith), or-true))
-      (λ e. rw (e, sound-all [] rs e, or-false)))
+      (by_test (two_current rs)
+      (λ e. let less = sound_less [] rs refl e in rw (e, ne_eqb (sound_up_to rs) used (λ f. omega arith), or-true))
+      (λ e. rw (e, sound_all [] rs e, or-false)))
 
-  pub in-order : badShelf shelf used ≡ false → InOrder shelf used
-  unfolding badShelf
-  in-order e =
-      let e₁ = or-right (ltb 65536 (length shelf)) _ e in
-      let e₂ = or-right (ltb (length shelf) used) _ e₁ in
+  pub in_order : bad_shelf shelf used ≡ false → InOrder shelf used
+  unfolding bad_shelf
+  in_order e =
+      let e₁ = or_right (ltb 65536 (length shelf)) _ e in
+      let e₂ = or_right (ltb (length shelf) used) _ e₁ in
       record {
-        size = ltb-false _ _ (or-left _ _ e);
-        within = ltb-false _ _ (or-left _ _ e₁);
-        fills = eqb-true _ _ (not-false _ (or-left _ _ e₂));
-        single = or-right (not (eqb (length (stored (records (take used shelf)))) used)) _ e₂;
+        size = ltb-false _ _ (or_left _ _ e);
+        within = ltb-false _ _ (or_left _ _ e₁);
+        fills = eqb-true _ _ (not-false _ (or_left _ _ e₂));
+        single = or_right (not (eqb (length (stored (records (take used shelf)))) used)) _ e₂;
       }
 
   -- and the other way round
-  pub not-bad : InOrder shelf used → badShelf shelf used ≡ false
-  unfolding badShelf
-  not-bad o = rw (le-ltb _ _ (o .size), le-ltb _ _ (o .within), eq-eqb _ _ (o .fills), o .single)
+  pub not-bad : InOrder shelf used → bad_shelf shelf used ≡ false
+  unfolding bad_shelf
+  not-bad o = rw (le-ltb _ _ o.size, le-ltb _ _ o.within, eq-eqb _ _ o.fills, o.single)

@@ -1,16 +1,12 @@
 -- What the three calls leave, from the inputs alone. The numbers are those of W10.
-use Prim.Native.Nat.{ℕ, _+_}
-use mathlib.Core.Bool.{Bool, true, cond}
-use mathlib.Core.List.{List, []}
-use lib.Dec.{ltb}
-use lib.ListN.{length, take, drop}
-use Rattle·block.specs.Over.{over}
-use Rattle·shelf·specs.specs.Records.{Record, stored, records}
-use Rattle·shelf·specs.specs.Shelf.{collected, hasCurrent, placeOf, sizeOf, notHigher, withNew, fitted, badShelf}
-use Rattle·shelf·specs.specs.declared.Ended.{Ended}
-use Rattle·shelf·specs.specs.declared.Ended.the-variants.{Done, BadShelf, NotHigher, NoRoom, NoCurrent}
-use Rattle·shelf·specs.specs.declared.Kept.{Kept}
-use Rattle·shelf·specs.specs.declared.Found.{Found}
+use Rattle.std.specs.Prelude.{ℕ, ◌+◌, Bool, true, cond, List, [], ltb, length, take, drop}
+use Rattle.block.specs.Over.{over}
+use Rattle.shelf.specs.Records.{Record, stored, records}
+use Rattle.shelf.specs.Shelf.{collected, has_current, place_of, size_of, not_higher, with_new, fitted, bad_shelf}
+use Rattle.shelf.specs.declared.Ended.{Ended}
+use Rattle.shelf.specs.declared.Ended.TheVariants.{Done, BadShelf, NotHigher, NoRoom, NoCurrent}
+use Rattle.shelf.specs.declared.Kept.{Kept}
+use Rattle.shelf.specs.declared.Found.{Found}
 
 -- what putting and collecting leave
 pub record Outcome : Type 0 where
@@ -29,23 +25,23 @@ abbrev pub refuse : Bool → ℕ → List ℕ → ℕ → Outcome → Outcome
 refuse test n shelf used next = cond test (record { number = n; used = used; bytes = shelf }) next
 
 -- a current record
-abbrev pub newRecord : ℕ → ℕ → List ℕ → Record
-newRecord job edition sealed = record { current = true; job = job; edition = edition; sealed = sealed }
+abbrev pub new_record : ℕ → ℕ → List ℕ → Record
+new_record job edition sealed = record { current = true; job = job; edition = edition; sealed = sealed }
 
 -- the records with a new one among them
-abbrev pub putIn : List ℕ → ℕ → ℕ → ℕ → List ℕ → List Record
-putIn shelf used job edition sealed = withNew (newRecord job edition sealed) (records (take used shelf))
+abbrev pub put_in : List ℕ → ℕ → ℕ → ℕ → List ℕ → List Record
+put_in shelf used job edition sealed = with_new (new_record job edition sealed) (records (take used shelf))
 
-unfoldable pub putCall : List ℕ → ℕ → ℕ → ℕ → List ℕ → Outcome
-putCall shelf used job edition sealed =
-    refuse (badShelf shelf used) 19 shelf used
-    (refuse (notHigher job edition (records (take used shelf))) 20 shelf used
-    (refuse (ltb (length shelf) (length (stored (collected (putIn shelf used job edition sealed))))) 21 shelf used
-    (holding (fitted (length shelf) (putIn shelf used job edition sealed)) shelf)))
+unfoldable pub put_call : List ℕ → ℕ → ℕ → ℕ → List ℕ → Outcome
+put_call shelf used job edition sealed =
+    refuse (bad_shelf shelf used) 19 shelf used
+    (refuse (not_higher job edition (records (take used shelf))) 20 shelf used
+    (refuse (ltb (length shelf) (length (stored (collected (put_in shelf used job edition sealed))))) 21 shelf used
+    (holding (fitted (length shelf) (put_in shelf used job edition sealed)) shelf)))
 
-unfoldable pub collectCall : List ℕ → ℕ → Outcome
-collectCall shelf used =
-    refuse (badShelf shelf used) 19 shelf used
+unfoldable pub collect_call : List ℕ → ℕ → Outcome
+collect_call shelf used =
+    refuse (bad_shelf shelf used) 19 shelf used
     (holding (collected (records (take used shelf))) shelf)
 
 -- what looking up a job gives: its current record as a part of the buffer; a refusal has 0 in both
@@ -57,32 +53,32 @@ pub record Place : Type 0 where
 abbrev pub nowhere : ℕ → Place
 nowhere n = record { number = n; start = 0; size = 0 }
 
-unfoldable pub findCall : List ℕ → ℕ → ℕ → Place
-findCall shelf used job =
+unfoldable pub find_call : List ℕ → ℕ → ℕ → Place
+find_call shelf used job =
     let rs = records (take used shelf) in
-    cond (badShelf shelf used) (nowhere 19)
-    (cond (hasCurrent job rs) (record { number = 0; start = placeOf job rs; size = sizeOf job rs })
+    cond (bad_shelf shelf used) (nowhere 19)
+    (cond (has_current job rs) (record { number = 0; start = place_of job rs; size = size_of job rs })
     (nowhere 22))
 
 -- the part of the buffer; empty where it lies outside
-unfoldable pub partOf : Place → List ℕ → List ℕ
-partOf p shelf = cond (ltb (length shelf) (p .start + p .size)) [] (take (p .size) (drop (p .start) shelf))
+unfoldable pub part_of : Place → List ℕ → List ℕ
+part_of p shelf = cond (ltb (length shelf) (p.start + p.size)) [] (take p.size (drop p.start shelf))
 
 -- what looking up hands back
-abbrev pub lookedUp : List ℕ → ℕ → ℕ → List ℕ
-lookedUp shelf used job = partOf (findCall shelf used job) shelf
+abbrev pub looked_up : List ℕ → ℕ → ℕ → List ℕ
+looked_up shelf used job = part_of (find_call shelf used job) shelf
 
 -- the number of an ending
-abbrev pub numberOfEnd : Ended → ℕ
-numberOfEnd Done = 0
-numberOfEnd BadShelf = 19
-numberOfEnd NotHigher = 20
-numberOfEnd NoRoom = 21
-numberOfEnd NoCurrent = 22
+abbrev pub number_of_end : Ended → ℕ
+number_of_end Done = 0
+number_of_end BadShelf = 19
+number_of_end NotHigher = 20
+number_of_end NoRoom = 21
+number_of_end NoCurrent = 22
 
 -- what an answer and the buffer spell
-abbrev pub outcomeOf : Kept → List ℕ → Outcome
-outcomeOf k shelf = record { number = numberOfEnd (k .ended); used = k .used; bytes = shelf }
+abbrev pub outcome_of : Kept → List ℕ → Outcome
+outcome_of k shelf = record { number = number_of_end k.ended; used = k.used; bytes = shelf }
 
-abbrev pub placeIn : Found → Place
-placeIn f = record { number = numberOfEnd (f .ended); start = f .start; size = f .length }
+abbrev pub place_in : Found → Place
+place_in f = record { number = number_of_end f.ended; start = f.start; size = f.length }

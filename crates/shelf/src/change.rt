@@ -1,22 +1,19 @@
 // What changes a shelf; its first `used` bytes are its records.
-ghost use mathlib.Core.Path.{_≡_};
-ghost use Prim.Native.Nat.{_+_, _≤_};
-ghost use lib.Dec.{ltb};
-ghost use lib.ListN.{length, take, drop};
-ghost use lib.Seq.{paste};
-ghost use Rattle·block.specs.Over.{over};
-ghost use Rattle·shelf·specs.specs.Records.{written, stored, records};
-ghost use Rattle·shelf·specs.specs.Shelf.{those};
-ghost use Rattle·shelf·specs.specs.Steps.{stays, roomMade, InOrder};
-ghost use Rattle·shelf·specs.specs.Calls.{newRecord};
-use crate::lookup;
-use crate::records;
+ghost use Rattle.std.specs.Prelude.{◌≡◌, ◌+◌, ◌≤◌, ltb, length, take, drop};
+ghost use Rattle.std.proofs.Math.Seq.{paste};
+ghost use Rattle.block.specs.Over.{over};
+ghost use Rattle.shelf.specs.Records.{written, stored, records};
+ghost use Rattle.shelf.specs.Shelf.{those};
+ghost use Rattle.shelf.specs.Steps.{stays, room_made, InOrder};
+ghost use Rattle.shelf.specs.Calls.{new_record};
+
+use crate::{lookup, records};
 
 // Moves `n` bytes from `from` down to `to`, from the first to the last, so that none is written over before it is read.
 fn move_down(shelf: &mut [u8], to: usize, from: usize, n: usize)
-    requires { ⌜ to ≤ from ⌝ }
-    requires { ⌜ from + n ≤ length (now shelf) ⌝ }
-    ensures { λ _. ⌜ now (shelf .exit) ≡ paste (now (shelf .entry)) to (drop from (now (shelf .entry))) n ⌝ }
+    requires to_le_from { to ≤ from }
+    requires n_in_bounds { from + n ≤ length shelf.old }
+    ensures { shelf.new ≡ paste shelf.old to (drop from shelf.old) n }
 {
     let mut i = 0;
     while i < n {
@@ -28,9 +25,9 @@ fn move_down(shelf: &mut [u8], to: usize, from: usize, n: usize)
 // Collects, and hands back how many bytes are kept. A record that stays moves down over those that do not, so what is behind the
 // last that stays is as it was.
 pub(crate) fn keep(shelf: &mut [u8], used: usize, coming: bool, job: u32) -> usize
-    requires { ⌜ used ≤ length (now shelf) ⌝ }
-    ensures { λ r. ⌜ r ≡ length (stored (those (stays coming job) (records (take used (now (shelf .entry)))))) ⌝ }
-    ensures { λ _. ⌜ now (shelf .exit) ≡ over (stored (those (stays coming job) (records (take used (now (shelf .entry)))))) (now (shelf .entry)) ⌝ }
+    requires { used ≤ length shelf.old }
+    ensures value { result ≡ length (stored (those (stays coming job) (records (take used shelf.old)))) }
+    ensures shelf_after { shelf.new ≡ over (stored (those (stays coming job) (records (take used shelf.old)))) shelf.old }
 {
     let mut to = 0;
     let mut at = 0;
@@ -50,8 +47,8 @@ pub(crate) fn keep(shelf: &mut [u8], used: usize, coming: bool, job: u32) -> usi
 
 // Whether a record with `n` sealed bytes finds no room behind `taken` bytes.
 pub(crate) fn short(room: usize, taken: usize, n: usize) -> bool
-    requires { ⌜ room ≤ 65536 ⌝ }
-    ensures { λ r. ⌜ r ≡ ltb room (taken + (12 + n)) ⌝ }
+    requires { room ≤ 65536 }
+    ensures { result ≡ ltb room (taken + (12 + n)) }
 {
     if taken > room {
         return true;
@@ -66,9 +63,9 @@ pub(crate) fn short(room: usize, taken: usize, n: usize) -> bool
 // the current one, if there is one, is marked superseded, one byte; else all that is superseded is thrown out, and that one with it,
 // unmarked.
 pub(crate) fn make_room(shelf: &mut [u8], used: usize, job: u32, n: usize) -> usize
-    requires { ⌜ InOrder (now shelf) used ⌝ }
-    ensures { λ r. ⌜ r ≡ length (stored (roomMade (length (now (shelf .entry))) n job (records (take used (now (shelf .entry)))))) ⌝ }
-    ensures { λ _. ⌜ now (shelf .exit) ≡ over (stored (roomMade (length (now (shelf .entry))) n job (records (take used (now (shelf .entry)))))) (now (shelf .entry)) ⌝ }
+    requires { InOrder shelf.old used }
+    ensures value { result ≡ length (stored (room_made (length shelf.old) n job (records (take used shelf.old)))) }
+    ensures shelf_after { shelf.new ≡ over (stored (room_made (length shelf.old) n job (records (take used shelf.old)))) shelf.old }
 {
     if short(shelf.len(), used, n) {
         return keep(shelf, used, true, job);
@@ -82,11 +79,11 @@ pub(crate) fn make_room(shelf: &mut [u8], used: usize, job: u32, n: usize) -> us
 
 // Writes a current record to the front of `out`.
 pub(crate) fn write(job: u32, edition: u16, sealed: &[u8], out: &mut [u8])
-    requires { ⌜ 12 + length (now sealed) ≤ length (now out) ⌝ }
-    requires { ⌜ length (now sealed) ≤ 65536 ⌝ }
-    ensures { λ _. ⌜ now (out .exit) ≡ over (written (newRecord job edition (now (sealed .entry)))) (now (out .entry)) ⌝ }
+    requires sealed_in_bounds { 12 + length sealed.now ≤ length out.old }
+    requires sealed_len_bound { length sealed.now ≤ 65536 }
+    ensures { out.new ≡ over (written (new_record job edition sealed.now)) out.old }
 {
     let head = records::new_head(job, edition, sealed.len() as u32);
-    bytes::copy(&head, out);
-    bytes::copy(sealed, &mut out[records::HEAD..]);
+    out[..records::HEAD].copy_from_slice(&head);
+    out[records::HEAD..records::HEAD + sealed.len()].copy_from_slice(sealed);
 }

@@ -1,18 +1,22 @@
 // A shelf: sealed files in one lent buffer, as records one after another. A job has one current record, or none; putting in a
 // new edition supersedes it, and collection throws out what is superseded.
+
+#![tactic(auto)]
+
 mod change;
 pub mod lookup;
 pub mod records;
 
-ghost use mathlib.Core.Path.{_≡_};
-ghost use Rattle·shelf·specs.specs.Shelf.{badShelf};
-ghost use Rattle·shelf·specs.specs.Calls.{numberOfEnd, outcomeOf, putCall, collectCall, placeIn, findCall, partOf};
+ghost use Rattle.std.specs.Prelude.{◌≡◌};
+ghost use Rattle.shelf.specs.Shelf.{bad_shelf};
+ghost use Rattle.shelf.specs.Calls.{number_of_end, outcome_of, put_call, collect_call, place_in, find_call, part_of};
 
 // The most bytes of a buffer.
 const MOST: usize = 65536;
 
 // How a call ended. A bad shelf is a buffer over 65,536 bytes, records that do not fill the used count exactly, an unknown mark,
 // or two current records of one job.
+#[derive(Drop)]
 pub enum Ended {
     Done,
     BadShelf,
@@ -22,12 +26,14 @@ pub enum Ended {
 }
 
 // How putting or collecting ended, and how many bytes are used now: a refusal hands back the count that came.
+#[derive(Drop)]
 pub struct Kept {
     pub ended: Ended,
     pub used: usize,
 }
 
 // How looking up ended, and the job's current record as a part of the buffer; a refusal has 0 in both.
+#[derive(Drop)]
 pub struct Found {
     pub ended: Ended,
     pub start: usize,
@@ -36,7 +42,7 @@ pub struct Found {
 
 // The number of how a call ended (W10).
 pub fn number(ended: Ended) -> u32
-    ensures { λ r. ⌜ r ≡ numberOfEnd ended ⌝ }
+    ensures { result ≡ number_of_end ended }
 {
     match ended {
         Ended::Done => 0,
@@ -48,7 +54,7 @@ pub fn number(ended: Ended) -> u32
 }
 
 fn bad(shelf: &[u8], used: usize) -> bool
-    ensures { λ r. ⌜ r ≡ badShelf (now (shelf .entry)) used ⌝ }
+    ensures { result ≡ bad_shelf shelf.now used }
 {
     if shelf.len() > MOST {
         return true;
@@ -62,7 +68,7 @@ fn bad(shelf: &[u8], used: usize) -> bool
 // Puts in an edition of a job, which must be higher than every one of it on the shelf. All is decided before the first byte is
 // written.
 pub fn put(shelf: &mut [u8], used: usize, job: u32, edition: u16, sealed: &[u8]) -> Kept
-    ensures { λ r. ⌜ outcomeOf r (now (shelf .exit)) ≡ putCall (now (shelf .entry)) used job edition (now (sealed .entry)) ⌝ }
+    ensures { outcome_of result shelf.new ≡ put_call shelf.old used job edition sealed.now }
 {
     if bad(shelf, used) {
         let ended = Ended::BadShelf;
@@ -89,7 +95,7 @@ pub fn put(shelf: &mut [u8], used: usize, job: u32, edition: u16, sealed: &[u8])
 
 // Throws out every superseded record.
 pub fn collect(shelf: &mut [u8], used: usize) -> Kept
-    ensures { λ r. ⌜ outcomeOf r (now (shelf .exit)) ≡ collectCall (now (shelf .entry)) used ⌝ }
+    ensures { outcome_of result shelf.new ≡ collect_call shelf.old used }
 {
     if bad(shelf, used) {
         let ended = Ended::BadShelf;
@@ -102,7 +108,7 @@ pub fn collect(shelf: &mut [u8], used: usize) -> Kept
 
 // Looks up a job's current record. Nothing is copied.
 pub fn find(shelf: &[u8], used: usize, job: u32) -> Found
-    ensures { λ r. ⌜ placeIn r ≡ findCall (now (shelf .entry)) used job ⌝ }
+    ensures { place_in result ≡ find_call shelf.now used job }
 {
     if bad(shelf, used) {
         return Found {
@@ -129,7 +135,7 @@ pub fn find(shelf: &[u8], used: usize, job: u32) -> Found
 // The record found, as a part of the buffer that was asked; an empty part in a refusal, and where an answer that a caller made up
 // points outside.
 pub fn part(shelf: &[u8], found: Found) -> &[u8]
-    ensures { λ r. ⌜ now r ≡ partOf (placeIn found) (now (shelf .entry)) ⌝ }
+    ensures { result.now ≡ part_of (place_in found) shelf.now }
 {
     let start = found.start;
     let length = found.length;

@@ -1,16 +1,15 @@
 // What the records of a shelf say: its first `used` bytes are its records.
-ghost use mathlib.Core.Path.{_≡_};
-ghost use mathlib.Core.Bool.{_&&_, cond};
-ghost use Prim.Native.Nat.{_+_, _≤_, _<_, _^_};
-ghost use lib.ListN.{length, take};
-ghost use Rattle·shelf·specs.specs.Records.{records};
-ghost use Rattle·shelf·specs.specs.Shelf.{hasCurrent};
-ghost use Rattle·shelf·specs.specs.Steps.{soundUpTo, Surveyed};
+ghost use Rattle.std.specs.Prelude.{◌≡◌, ◌&&◌, cond, ◌+◌, ◌≤◌, ◌<◌, ◌^◌, length, take};
+ghost use Rattle.shelf.specs.Records.{records};
+ghost use Rattle.shelf.specs.Shelf.{has_current};
+ghost use Rattle.shelf.specs.Steps.{sound_up_to, Surveyed};
+
 use crate::records;
 use crate::records::Head;
 
 // What the records say of a job and an edition, in bytes: those before the job's current record, those of that record, those of its
 // records with at least this edition, and those of the current records of all other jobs.
+#[derive(Drop)]
 pub(crate) struct Told {
     pub start: usize,
     pub length: usize,
@@ -20,9 +19,9 @@ pub(crate) struct Told {
 
 // A record that passes a test counts.
 fn add(sum: usize, passes: bool, n: usize) -> usize
-    requires { ⌜ sum + n < 2 ^ 64 ⌝ }
-    ensures { λ r. ⌜ r ≡ cond passes (sum + n) sum ⌝ }
-    ensures { λ r. ⌜ r ≤ sum + n ⌝ }
+    requires { sum + n < 2 ^ 64 }
+    ensures value { result ≡ cond passes (sum + n) sum }
+    ensures upper_bound { result ≤ sum + n }
 {
     if passes {
         return sum + n;
@@ -31,8 +30,8 @@ fn add(sum: usize, passes: bool, n: usize) -> usize
 }
 
 pub(crate) fn survey(shelf: &[u8], used: usize, job: u32, edition: u16) -> Told
-    requires { ⌜ used ≤ length (now shelf) ⌝ }
-    ensures { λ r. ⌜ Surveyed job edition (records (take used (now (shelf .entry)))) r ⌝ }
+    requires { used ≤ length shelf.now }
+    ensures { Surveyed job edition (records (take used shelf.now)) result }
 {
     let mut at = 0;
     let mut start = 0;
@@ -60,8 +59,8 @@ pub(crate) fn survey(shelf: &[u8], used: usize, job: u32, edition: u16) -> Told
 
 // Whether a record is current, and another one of its job in the first `at` bytes.
 fn is_second(s: &[u8], at: usize, h: Head) -> bool
-    requires { ⌜ at ≤ length (now s) ⌝ }
-    ensures { λ r. ⌜ r ≡ h .current && hasCurrent (h .job) (records (take at (now (s .entry)))) ⌝ }
+    requires { at ≤ length s.now }
+    ensures { result ≡ h.current && has_current h.job (records (take at s.now)) }
 {
     if h.current {
         let found = survey(s, at, h.job, 0);
@@ -73,7 +72,7 @@ fn is_second(s: &[u8], at: usize, h: Head) -> bool
 // How many bytes are in order. A shelf whose used bytes are not all in order breaks off there: at a record that does not stand
 // whole or has no known mark, or at the second current record of a job.
 pub fn sound_up_to(s: &[u8]) -> usize
-    ensures { λ r. ⌜ r ≡ soundUpTo (records (now (s .entry))) ⌝ }
+    ensures { result ≡ sound_up_to (records s.now) }
 {
     let mut at = 0;
     loop {

@@ -1,13 +1,8 @@
 // The record at the front of a part of a shelf.
-ghost use mathlib.Core.Path.{_≡_};
-ghost use mathlib.Core.Bool.{_&&_, not};
-ghost use mathlib.Core.List.{[], _∷_, _++_};
-ghost use Prim.Native.Nat.{_≤_};
-ghost use lib.Dec.{leb, eqb};
-ghost use lib.ListN.{length};
-ghost use Rattle·block.specs.BigEndian.{numberOf, bytesOf};
-ghost use Rattle·label.specs.Label.{labelOf};
-ghost use Rattle·shelf·specs.specs.Records.{marked, sizeAt, headAt};
+ghost use Rattle.std.specs.Prelude.{◌≡◌, ◌&&◌, not, [], ◌∷◌, ◌++◌, ◌≤◌, leb, eqb, length};
+ghost use Rattle.block.specs.BigEndian.{number_of, bytes_of};
+ghost use Rattle.label.specs.Label.{label_of};
+ghost use Rattle.shelf.specs.Records.{marked, size_at, head_at};
 
 // Mark, job, edition and length, in bytes.
 pub(crate) const HEAD: usize = 12;
@@ -19,6 +14,7 @@ const CURRENT: u8 = 0x44;
 pub(crate) const SUPERSEDED: u8 = 0x58;
 
 // What the first bytes of a record say, and how many bytes it has, these included.
+#[derive(Clone, Copy)]
 pub struct Head {
     pub size: usize,
     pub current: bool,
@@ -28,8 +24,8 @@ pub struct Head {
 
 // Whether `s` starts with one of the two marks.
 fn marked(s: &[u8]) -> bool
-    requires { ⌜ 12 ≤ length (now s) ⌝ }
-    ensures { λ r. ⌜ r ≡ marked (now (s .entry)) ⌝ }
+    requires { 12 ≤ length s.now }
+    ensures { result ≡ marked s.now }
 {
     if s[0] != MARK {
         return false;
@@ -43,7 +39,7 @@ fn marked(s: &[u8]) -> bool
 // How many bytes the record at the front of `s` has; 0 where none stands whole there. What a length field says is compared with
 // what is left, so no sum wraps.
 fn size(s: &[u8]) -> usize
-    ensures { λ r. ⌜ r ≡ sizeAt (now (s .entry)) ⌝ }
+    ensures { result ≡ size_at s.now }
 {
     if s.len() < HEAD {
         return 0;
@@ -59,14 +55,14 @@ fn size(s: &[u8]) -> usize
 }
 
 fn number(high: u8, low: u8) -> u16
-    ensures { λ r. ⌜ r ≡ numberOf (high ∷ low ∷ []) ⌝ }
+    ensures { result ≡ number_of (high ∷ low ∷ []) }
 {
     high as u16 * 256 + low as u16
 }
 
 // The head of the record at the front of `s`, all 0 where none stands whole there. To list a shelf, go on behind its size.
 pub fn front(s: &[u8]) -> Head
-    ensures { λ r. ⌜ r ≡ headAt (now (s .entry)) ⌝ }
+    ensures { result ≡ head_at s.now }
 {
     let size = size(s);
     if size == 0 {
@@ -90,7 +86,7 @@ pub fn front(s: &[u8]) -> Head
 
 // Whether it is the head of a job's current record.
 pub(crate) fn is_current_of(h: Head, job: u32) -> bool
-    ensures { λ r. ⌜ r ≡ h .current && eqb (h .job) job ⌝ }
+    ensures { result ≡ h.current && eqb h.job job }
 {
     if h.current {
         return h.job == job;
@@ -100,7 +96,7 @@ pub(crate) fn is_current_of(h: Head, job: u32) -> bool
 
 // Whether it is a record of the job, with an edition of at least this one.
 pub(crate) fn reaches(h: Head, job: u32, edition: u16) -> bool
-    ensures { λ r. ⌜ r ≡ eqb (h .job) job && leb edition (h .edition) ⌝ }
+    ensures { result ≡ eqb h.job job && leb edition h.edition }
 {
     if h.job == job {
         return edition <= h.edition;
@@ -110,7 +106,7 @@ pub(crate) fn reaches(h: Head, job: u32, edition: u16) -> bool
 
 // Whether a collection keeps the record: a current one, but not of a job whose new record is coming.
 pub(crate) fn stays(h: Head, coming: bool, job: u32) -> bool
-    ensures { λ r. ⌜ r ≡ not (coming && eqb (h .job) job) && h .current ⌝ }
+    ensures { result ≡ not (coming && eqb h.job job) && h.current }
 {
     if !coming {
         return h.current;
@@ -123,22 +119,11 @@ pub(crate) fn stays(h: Head, coming: bool, job: u32) -> bool
 
 // The head of a current record.
 pub(crate) fn new_head(job: u32, edition: u16, n: u32) -> [u8; HEAD]
-    ensures { λ r. ⌜ r ≡ 0x52 ∷ 0x44 ∷ (labelOf job edition ++ bytesOf 4 n) ⌝ }
+    ensures { result ≡ 0x52 ∷ 0x44 ∷ (label_of job edition ++ bytes_of 4 n) }
 {
     let l = label::label(job, edition);
     let b = block::split(n);
     [
-        MARK,
-        CURRENT,
-        l[0],
-        l[1],
-        l[2],
-        l[3],
-        l[4],
-        l[5],
-        b[0],
-        b[1],
-        b[2],
-        b[3],
+        MARK, CURRENT, l[0], l[1], l[2], l[3], l[4], l[5], b[0], b[1], b[2], b[3],
     ]
 }

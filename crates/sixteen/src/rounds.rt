@@ -4,19 +4,16 @@
 //
 // How many blocks and groups are worked on are parameters all the way down, since a loop whose count the back end knows is not vectorized
 // here.
-ghost use mathlib.Core.Path.{_≡_};
-ghost use mathlib.Core.List.{List};
-ghost use Prim.Native.Nat.{ℕ, _+_, _*_, _^_, _<_, _≤_};
-ghost use lib.ListN.{length, getD};
-ghost use Rattle·block.specs.Xor.{_⊕_};
-ghost use Rattle·cipher.specs.Sm4.{tau, L, T, roundBy, turned, encryptWords};
-ghost use Rattle·sixteen·specs.specs.Bytes.{Transposed, Subbed};
-ghost use Rattle·sixteen·specs.specs.Blocks.{Each, pairAt, Paired, Halves, row, block, keyed, Changed, Sized};
+ghost use Rattle.std.specs.Prelude.{◌≡◌, List, ℕ, ◌+◌, ◌*◌, ◌^◌, ◌<◌, ◌≤◌, length, get_or};
+ghost use Rattle.block.specs.Xor.{◌⊕◌};
+ghost use Rattle.cipher.specs.Sm4.{tau, L, T, round_by, turned, encrypt_words};
+ghost use Rattle.sixteen.specs.Bytes.{Transposed, Subbed};
+ghost use Rattle.sixteen.specs.Blocks.{Each, pair_at, Paired, Halves, row, block, keyed, Changed, Sized};
 
 // The bytes of eight words, transposed bit by bit, so that word i has bit i of all 64 bytes: three stages of masked swaps. It is its own
 // inverse.
 fn transpose(w: [u64; 8]) -> [u64; 8]
-    ensures { λ r. ⌜ Transposed w r ⌝ }
+    ensures { Transposed w result }
 {
     let m1: u64 = 0x5555_5555_5555_5555;
     let m2: u64 = 0x3333_3333_3333_3333;
@@ -71,30 +68,30 @@ fn transpose(w: [u64; 8]) -> [u64; 8]
 
 // Each byte of eight words by the S-box.
 fn sub_bytes(w: [u64; 8]) -> [u64; 8]
-    ensures { λ r. ⌜ Subbed w r ⌝ }
+    ensures { Subbed w result }
 {
     transpose(circuit::sbox(transpose(w)))
 }
 
 // Two words as one.
 fn half(high: u32, low: u32) -> u64
-    ensures { λ r. ⌜ (r ≡ high * 2 ^ 32 + low) × (low < 2 ^ 32) ⌝ }
+    ensures { (result ≡ high * 2 ^ 32 + low) × (low < 2 ^ 32) }
 {
     (high as u64) << 32 | low as u64
 }
 
 // Words 2 i and 2 i + 1 as one.
 fn pair(t: &[u32; 64], i: usize) -> u64
-    requires { ⌜ (i < 32) × (length (now t) ≡ 64) ⌝ }
-    ensures { λ r. ⌜ (r ≡ pairAt (now (t .entry)) i) × (getD (now (t .entry)) (2 * i) 0 < 2 ^ 32) ⌝ }
+    requires { (i < 32) × (length t.now ≡ 64) }
+    ensures { (result ≡ pair_at t.now i) × (get_or t.now (2 * i) 0 < 2 ^ 32) }
 {
     half(t[2 * i + 1], t[2 * i])
 }
 
 // The sixteen words of group g as eight.
 fn paired(t: &[u32; 64], g: usize) -> [u64; 8]
-    requires { ⌜ (g < 4) × (length (now t) ≡ 64) ⌝ }
-    ensures { λ r. ⌜ Paired (now (t .entry)) g r ⌝ }
+    requires { (g < 4) × (length t.now ≡ 64) }
+    ensures { Paired t.now g result }
 {
     let p = 8 * g;
     [
@@ -111,9 +108,9 @@ fn paired(t: &[u32; 64], g: usize) -> [u64; 8]
 
 // Eight words as the sixteen of group g.
 fn put_group(z: [u64; 8], g: usize, s: &mut [u32; 64])
-    requires { ⌜ (g < 4) × (length (now s) ≡ 64) ⌝ }
-    ensures { λ _. ⌜ ((f : ℕ → ℕ) → Each f (16 * g) (now (s .entry)) → Halves f g z → Each f (16 * g + 16) (now (s .exit))) ⌝ }
-    ensures { λ _. ⌜ length (now (s .exit)) ≡ 64 ⌝ }
+    requires { (g < 4) × (length s.old ≡ 64) }
+    ensures by_index { (f : ℕ → ℕ) → Each f (16 * g) s.old → Halves f g z → Each f (16 * g + 16) s.new }
+    ensures s_len { length s.new ≡ 64 }
 {
     let mut i: usize = 0;
     while i < 8 {
@@ -127,9 +124,9 @@ fn put_group(z: [u64; 8], g: usize, s: &mut [u32; 64])
 
 // Each word of so many groups by tau: its four bytes by the S-box.
 fn sub_groups(t: &[u32; 64], s: &mut [u32; 64], groups: usize)
-    requires { ⌜ (groups ≤ 4) × (length (now t) ≡ 64) × (length (now s) ≡ 64) ⌝ }
-    ensures { λ _. ⌜ Each (λ j. tau (getD (now (t .entry)) j 0)) (16 * groups) (now (s .exit)) ⌝ }
-    ensures { λ _. ⌜ length (now (s .exit)) ≡ 64 ⌝ }
+    requires { (groups ≤ 4) × (length t.now ≡ 64) × (length s.old ≡ 64) }
+    ensures each { Each (λ j. tau (get_or t.now j 0)) (16 * groups) s.new }
+    ensures s_len { length s.new ≡ 64 }
 {
     let mut g: usize = 0;
     while g < groups {
@@ -141,10 +138,10 @@ fn sub_groups(t: &[u32; 64], s: &mut [u32; 64], groups: usize)
 
 // What goes into the S-boxes of the first n blocks in round i, by the round key k.
 fn keyed_words(t: &mut [u32; 64], x: &[u32; 256], i: usize, k: u32, n: usize)
-    requires { ⌜ (n ≤ 64) × (i < 32) ⌝ }
-    requires { ⌜ (length (now t) ≡ 64) × (length (now x) ≡ 256) ⌝ }
-    ensures { λ _. ⌜ Each (keyed (now (x .entry)) i k) n (now (t .exit)) ⌝ }
-    ensures { λ _. ⌜ length (now (t .exit)) ≡ 64 ⌝ }
+    requires n_bound { (n ≤ 64) × (i < 32) }
+    requires t_len { (length t.old ≡ 64) × (length x.now ≡ 256) }
+    ensures each { Each (keyed x.now i k) n t.new }
+    ensures t_len_2 { length t.new ≡ 64 }
 {
     let b = (i + 1) % 4 * 64;
     let c = (i + 2) % 4 * 64;
@@ -158,10 +155,10 @@ fn keyed_words(t: &mut [u32; 64], x: &[u32; 256], i: usize, k: u32, n: usize)
 
 // L of n words, added to row i.
 fn mix(x: &mut [u32; 256], i: usize, s: &[u32; 64], n: usize)
-    requires { ⌜ n ≤ 64 ⌝ }
-    requires { ⌜ (length (now x) ≡ 256) × (length (now s) ≡ 64) ⌝ }
-    ensures { λ _. ⌜ Changed (row i) n (λ j. getD (now (x .entry)) (row i + j) 0 ⊕ L (getD (now (s .entry)) j 0)) (now (x .entry)) (now (x .exit)) ⌝ }
-    ensures { λ _. ⌜ length (now (x .exit)) ≡ 256 ⌝ }
+    requires n_bound { n ≤ 64 }
+    requires x_len { (length x.old ≡ 256) × (length s.now ≡ 64) }
+    ensures changed { Changed (row i) n (λ j. get_or x.old (row i + j) 0 ⊕ L (get_or s.now j 0)) x.old x.new }
+    ensures x_len_2 { length x.new ≡ 256 }
 {
     let a = i % 4 * 64;
     let mut j: usize = 0;
@@ -181,10 +178,10 @@ fn round(
     n: usize,
     groups: usize,
 )
-    requires { ⌜ (n ≤ 16 * groups) × (groups ≤ 4) × (i < 32) ⌝ }
-    requires { ⌜ Sized (now x) (now t) (now s) ⌝ }
-    ensures { λ _. ⌜ ((j : ℕ) → j < n → block (now (x .exit)) (i + 1) j ≡ roundBy T (block (now (x .entry)) i j) k) ⌝ }
-    ensures { λ _. ⌜ Sized (now (x .exit)) (now (t .exit)) (now (s .exit)) ⌝ }
+    requires n_bound { (n ≤ 16 * groups) × (groups ≤ 4) × (i < 32) }
+    requires sized { Sized x.old t.old s.old }
+    ensures by_index { (j : ℕ) → j < n → block x.new (i + 1) j ≡ round_by T (block x.old i j) k }
+    ensures sized_2 { Sized x.new t.new s.new }
 {
     keyed_words(t, x, i, k, n);
     sub_groups(t, s, groups);
@@ -193,10 +190,10 @@ fn round(
 
 // The first n blocks, encrypted. The words of a block stand turned round then.
 pub(crate) fn all_rounds(rk: [u32; 32], x: &mut [u32; 256], n: usize, groups: usize)
-    requires { ⌜ (n ≤ 16 * groups) × (groups ≤ 4) ⌝ }
-    requires { ⌜ length (now x) ≡ 256 ⌝ }
-    ensures { λ _. ⌜ ((j : ℕ) → j < n → turned (block (now (x .exit)) 0 j) ≡ encryptWords rk (block (now (x .entry)) 0 j)) ⌝ }
-    ensures { λ _. ⌜ length (now (x .exit)) ≡ 256 ⌝ }
+    requires n_bound { (n ≤ 16 * groups) × (groups ≤ 4) }
+    requires x_len { length x.old ≡ 256 }
+    ensures by_index { (j : ℕ) → j < n → turned (block x.new 0 j) ≡ encrypt_words rk (block x.old 0 j) }
+    ensures x_len_2 { length x.new ≡ 256 }
 {
     let mut t = [0u32; 64];
     let mut s = [0u32; 64];

@@ -1,15 +1,15 @@
 -- The S-boxes of a byte, column by column.
-use Rattle·sliced·proofs.proofs.Names.{Held, List, Masks, Sbox, SboxLanes, [], _%_, _*_, _+_, _-_, _/_, _<_, _^_, _∙_, _∷_, _≡_, _≤_, _⊎_}
-use Rattle·sliced·proofs.proofs.Names.{add-zero, ap, ap₂, arith, bit, bit-mod, bit-pack, bit-shr, bit-small, bit-xor, byteLane, column}
-use Rattle·sliced·proofs.proofs.Names.{each8, getD, keyed, lane, length, lit<, lt-or-le, mod-eq-of-lt, mod-lt, one-more, pack, pack-is}
-use Rattle·sliced·proofs.proofs.Names.{puts, puts-in, puts-out, refl, subbed, summed, sym, tau-bit, ℕ, ⊎-elim}
-use Rattle·sliced·proofs.proofs.Held.{held-lane}
+use Rattle.sliced.proofs.Names.{Held, List, Masks, Sbox, SboxLanes, [], ◌%◌, ◌*◌, ◌+◌, ◌-◌, ◌/◌, ◌<◌, ◌^◌, ◌∙◌, ◌∷◌, ◌≡◌, ◌≤◌}
+use Rattle.sliced.proofs.Names.{add-zero, ap, ap₂, arith, bit, bit-mod, bit-pack, bit-shr, bit-small, bit-xor, byte_lane, column}
+use Rattle.sliced.proofs.Names.{each8, get_or, keyed, lane, length, lit<, lt-or-le, mod-eq_of_lt, mod-lt, one_more, pack, pack_is}
+use Rattle.sliced.proofs.Names.{puts, puts_in, puts_out, refl, subbed, summed, sym, tau-bit, ℕ, ⊎_elim}
+use Rattle.sliced.proofs.Held.{held_lane}
 
 -- the first eight entries
 abbrev pub eight : List ℕ → List ℕ
-eight o = getD o 0 0 ∷ getD o 1 0 ∷ getD o 2 0 ∷ getD o 3 0 ∷ getD o 4 0 ∷ getD o 5 0 ∷ getD o 6 0 ∷ getD o 7 0 ∷ []
+eight o = get_or o 0 0 ∷ get_or o 1 0 ∷ get_or o 2 0 ∷ get_or o 3 0 ∷ get_or o 4 0 ∷ get_or o 5 0 ∷ get_or o 6 0 ∷ get_or o 7 0 ∷ []
 
-column-word : (x y z m : List ℕ) (p i : ℕ) → i < 8 → getD (column x y z m p) i 0 ≡ summed x y z m (p + 8 * i) i
+column-word : (x y z m : List ℕ) (p i : ℕ) → i < 8 → get_or (column x y z m p) i 0 ≡ summed x y z m (p + 8 * i) i
 column-word x y z m p =
     each8 _ (ap (λ (q : ℕ). summed x y z m q 0) (sym (add-zero p))) refl refl refl refl refl refl refl
 
@@ -20,23 +20,23 @@ module _ (x y z m : List ℕ) (k b j n : ℕ) (hb : b < 4) (hj : j < 8) (hn : n 
   sum-bit q i hi e =
       let u : q / 8 % 32 ≡ 8 * b + i = omega arith in
       let v : 8 * n + q % 8 ≡ 8 * n + j = omega arith in
-      let h : (l : List ℕ) → bit n (getD l q 0) ≡ bit (8 * b + i) (lane l (8 * n + j)) =
-      λ l. held-lane l 8 q n (omega arith) (omega arith) hn ∙ ap₂ (λ (a c : ℕ). bit a (lane l c)) u v in
+      let h : (l : List ℕ) → bit n (get_or l q 0) ≡ bit (8 * b + i) (lane l (8 * n + j)) =
+      λ l. held_lane l 8 q n (omega arith) (omega arith) hn ∙ ap₂ (λ (a c : ℕ). bit a (lane l c)) u v in
       simp (bit-xor, h, hm i n hi hn)
 
-  in-bit : (i : ℕ) → i < 8 → bit n (getD (column x y z m (64 * b + j)) i 0) ≡ bit (8 * b + i) (keyed x y z k (8 * n + j))
-  in-bit i h = ap (bit n) (column-word x y z m (64 * b + j) i h) ∙ sum-bit (64 * b + j + 8 * i) i h refl
+  in_bit : (i : ℕ) → i < 8 → bit n (get_or (column x y z m (64 * b + j)) i 0) ≡ bit (8 * b + i) (keyed x y z k (8 * n + j))
+  in_bit i h = ap (bit n) (column-word x y z m (64 * b + j) i h) ∙ sum-bit (64 * b + j + 8 * i) i h refl
 
   out-bit : (o : List ℕ) → SboxLanes (column x y z m (64 * b + j)) o → (i : ℕ) → i < 8
-      → bit n (getD (eight o) i 0) ≡ bit (8 * b + i) (subbed x y z k (8 * n + j))
-  unfolding byteLane pack
+      → bit n (get_or (eight o) i 0) ≡ bit (8 * b + i) (subbed x y z k (8 * n + j))
+  unfolding byte_lane pack
   out-bit o ho i hi =
       let w = keyed x y z k (8 * n + j) in
       let q = column x y z m (64 * b + j) in
-      let g : byteLane q n ≡ w / 2 ^ (8 * b) % 256 =
-      pack-is 8 (λ a. bit n (getD q a 0)) (w / 2 ^ (8 * b) % 256) (λ a. bit-small n (getD q a 0)) (mod-lt (w / 2 ^ (8 * b)) (lit< tt))
-      (λ a ha. in-bit a ha ∙ sym (bit-mod 8 a (w / 2 ^ (8 * b)) ha ∙ bit-shr (8 * b) a w)) in
-      sym (bit-pack 8 (λ a. bit n (getD (eight o) a 0)) (λ a. bit-small n (getD (eight o) a 0)) i hi)
+      let g : byte_lane q n ≡ w / 2 ^ (8 * b) % 256 =
+      pack_is 8 (λ a. bit n (get_or q a 0)) (w / 2 ^ (8 * b) % 256) (λ a. bit-small n (get_or q a 0)) (mod-lt (w / 2 ^ (8 * b)) (lit< tt))
+      (λ a ha. in_bit a ha ∙ sym (bit-mod 8 a (w / 2 ^ (8 * b)) ha ∙ bit-shr (8 * b) a w)) in
+      sym (bit-pack 8 (λ a. bit n (get_or (eight o) a 0)) (λ a. bit-small n (get_or (eight o) a 0)) i hi)
       ∙ ap (bit i) (ho n hn ∙ ap Sbox g)
       ∙ sym (tau-bit b i w hb hi)
 
@@ -44,33 +44,33 @@ module _ (x y z m : List ℕ) (k b j n : ℕ) (hb : b < 4) (hj : j < 8) (hn : n 
 abbrev pub Columns : (ℕ → ℕ) → ℕ → ℕ → ℕ → List ℕ → Type 0
 Columns f n b j s =
     Held f n (64 * b) s
-    × ((c i k : ℕ) → c < j → i < 8 → k < 64 → bit k (getD s (64 * b + c + 8 * i) 0) ≡ bit (8 * b + i) (f (8 * k + c)))
+    × ((c i k : ℕ) → c < j → i < 8 → k < 64 → bit k (get_or s (64 * b + c + 8 * i) 0) ≡ bit (8 * b + i) (f (8 * k + c)))
 
-pub columns-first : (f : ℕ → ℕ) (n b : ℕ) (s : List ℕ) → Held f n (64 * b) s → Columns f n b 0 s
-columns-first f n b s h = (h, λ c i k g. absurd (omega arith))
+pub columns_first : (f : ℕ → ℕ) (n b : ℕ) (s : List ℕ) → Held f n (64 * b) s → Columns f n b 0 s
+columns_first f n b s h = (h, λ c i k g. absurd (omega arith))
 
-pub columns-last : (f : ℕ → ℕ) (n b j : ℕ) (s : List ℕ) → b < 4 → n ≤ j → Columns f n b j s → Held f n (64 * b + 64) s
-columns-last f n b j s hb hj C p k hp hc hk =
-    ⊎-elim (λ (g : p < 64 * b). C .0 p k g hc hk)
+pub columns_last : (f : ℕ → ℕ) (n b j : ℕ) (s : List ℕ) → b < 4 → n ≤ j → Columns f n b j s → Held f n (64 * b + 64) s
+columns_last f n b j s hb hj C p k hp hc hk =
+    ⊎_elim (λ (g : p < 64 * b). C.0 p k g hc hk)
     (λ (g : 64 * b ≤ p).
     let i = p / 8 - 8 * b in
     let e : p ≡ 64 * b + p % 8 + 8 * i = omega arith in
     let r : p / 8 < 32 = omega arith in
     let u : 8 * b + i ≡ p / 8 = omega arith in
-    ap (λ (q : ℕ). bit k (getD s q 0)) e ∙ C .1 (p % 8) i k (omega arith) (omega arith) hk
-    ∙ ap (λ (r : ℕ). bit r (f (8 * k + p % 8))) (u ∙ sym (mod-eq-of-lt r))) (lt-or-le p (64 * b))
+    ap (λ (q : ℕ). bit k (get_or s q 0)) e ∙ C.1 (p % 8) i k (omega arith) (omega arith) hk
+    ∙ ap (λ (r : ℕ). bit r (f (8 * k + p % 8))) (u ∙ sym (mod-eq_of_lt r))) (lt-or-le p (64 * b))
 
 module _ (x y z m : List ℕ) (key n b j : ℕ) (s o : List ℕ) (hb : b < 4) (hj : j < 8) (hm : Masks 8 (λ i. bit (8 * b + i) key) m)
     (hs : length s ≡ 512) (ho : SboxLanes (column x y z m (64 * b + j)) o) where
-  pub columns-next : Columns (subbed x y z key) n b j s → Columns (subbed x y z key) n b (j + 1) (puts 8 s (64 * b + j) 0 (eight o))
-  columns-next C =
+  pub columns_next : Columns (subbed x y z key) n b j s → Columns (subbed x y z key) n b (j + 1) (puts 8 s (64 * b + j) 0 (eight o))
+  columns_next C =
       let q = 64 * b + j in
       let t = puts 8 s q 0 (eight o) in
-      let kept : (p : ℕ) → ((i : ℕ) → p ≡ q + 0 + 8 * i → ⊥) → getD t p 0 ≡ getD s p 0 = puts-out 8 (eight o) s q 0 in (
-        λ p k hp hc hk. ap (bit k) (kept p (λ i e. omega arith)) ∙ C .0 p k hp hc hk,
+      let kept : (p : ℕ) → ((i : ℕ) → p ≡ q + 0 + 8 * i → ⊥) → get_or t p 0 ≡ get_or s p 0 = puts_out 8 (eight o) s q 0 in (
+        λ p k hp hc hk. ap (bit k) (kept p (λ i e. omega arith)) ∙ C.0 p k hp hc hk,
         λ c i k hc hi hk.
-            one-more (λ c. bit k (getD t (64 * b + c + 8 * i) 0) ≡ bit (8 * b + i) (subbed x y z key (8 * k + c))) j
-            (ap (bit k) (puts-in 8 (eight o) s q 0 i (q + 8 * i) (omega arith) (lit< tt) hi (omega arith))
+            one_more (λ c. bit k (get_or t (64 * b + c + 8 * i) 0) ≡ bit (8 * b + i) (subbed x y z key (8 * k + c))) j
+            (ap (bit k) (puts_in 8 (eight o) s q 0 i (q + 8 * i) (omega arith) (lit< tt) hi (omega arith))
             ∙ out-bit x y z m key b j k hb hj hk hm o ho i hi)
-            (λ c g. ap (bit k) (kept (64 * b + c + 8 * i) (λ r e. omega arith)) ∙ C .1 c i k g hi hk) c hc,
+            (λ c g. ap (bit k) (kept (64 * b + c + 8 * i) (λ r e. omega arith)) ∙ C.1 c i k g hi hk) c hc,
       )

@@ -1,98 +1,98 @@
 -- Transposed halves of blocks are lanes, and lanes transposed are halves of blocks.
-use Rattle·sliced·proofs.proofs.Names.{Halved, List, Parted, Row, Rows, Turned, [], _%_, _*_, _+_, _/_, _<_, _^_, _∙_, _∷_, _≡_, _≤_}
-use Rattle·sliced·proofs.proofs.Names.{add-zero, ap, arith, at, below-at, bit, bit-shr, encryptWords, four-entries, getD, lane, lanes}
-use Rattle·sliced·proofs.proofs.Names.{length, lit<, mod-is, one-more, place, puts, puts-in, puts-out, refl, rounds, set, subst, sym}
-use Rattle·sliced·proofs.proofs.Names.{turned, word-more, ℕ}
-use Rattle·sliced·proofs.proofs.Held.{lane-lt, lane-bit, lanes-words}
+use Rattle.sliced.proofs.Names.{Halved, List, Parted, Row, Rows, Turned, [], ◌%◌, ◌*◌, ◌+◌, ◌/◌, ◌<◌, ◌^◌, ◌∙◌, ◌∷◌, ◌≡◌, ◌≤◌}
+use Rattle.sliced.proofs.Names.{add-zero, ap, arith, at, below_at, bit, bit-shr, encrypt_words, four_entries, get_or, lane, lanes}
+use Rattle.sliced.proofs.Names.{length, lit<, mod_is, one_more, place, puts, puts_in, puts_out, refl, rounds, set, subst, sym}
+use Rattle.sliced.proofs.Names.{turned, word_more, ℕ}
+use Rattle.sliced.proofs.Held.{lane-lt, lane-bit, lanes-words}
 
-pub parted-next : (a upper lower : List ℕ) (i : ℕ) → i < 256 → length upper ≡ 256 → length lower ≡ 256 → Parted i a upper lower
-    → Parted (i + 1) a (set upper i (getD a (i + 256) 0)) (set lower i (getD a i 0))
-parted-next a upper lower i h hu hl P = record {
-  up = word-more i _ upper (omega arith) (λ m v. getD a (m + 256) 0 ≡ v) refl (P .up);
-  low = word-more i _ lower (omega arith) (λ m v. getD a m 0 ≡ v) refl (P .low);
+pub parted_next : (a upper lower : List ℕ) (i : ℕ) → i < 256 → length upper ≡ 256 → length lower ≡ 256 → Parted i a upper lower
+    → Parted (i + 1) a (set upper i (get_or a (i + 256) 0)) (set lower i (get_or a i 0))
+parted_next a upper lower i h hu hl P = record {
+  up = word_more i _ upper (omega arith) (λ m v. get_or a (m + 256) 0 ≡ v) refl P.up;
+  low = word_more i _ lower (omega arith) (λ m v. get_or a m 0 ≡ v) refl P.low;
 }
 
 pub joined-next : (a upper lower : List ℕ) (i : ℕ) → i < 256 → length a ≡ 512 → Parted i a upper lower
-    → Parted (i + 1) (set (set a i (getD lower i 0)) (i + 256) (getD upper i 0)) upper lower
+    → Parted (i + 1) (set (set a i (get_or lower i 0)) (i + 256) (get_or upper i 0)) upper lower
 joined-next a upper lower i h ha P =
-    let v = getD lower i 0 ∷ getD upper i 0 ∷ [] in
+    let v = get_or lower i 0 ∷ get_or upper i 0 ∷ [] in
     let J : Parted (i + 1) (puts 256 a i 0 v) upper lower = record {
-      up = one-more _ i (puts-in 256 v a i 0 1 (i + 256) (omega arith) (lit< tt) (lit< tt) (omega arith))
-          (λ m g. puts-out 256 v a i 0 (m + 256) (λ k q. omega arith) ∙ P .up m g);
-      low = one-more _ i (puts-in 256 v a i 0 0 i (omega arith) (lit< tt) (lit< tt) (omega arith))
-          (λ m g. puts-out 256 v a i 0 m (λ k q. omega arith) ∙ P .low m g);
+      up = one_more _ i (puts_in 256 v a i 0 1 (i + 256) (omega arith) (lit< tt) (lit< tt) (omega arith))
+          (λ m g. puts_out 256 v a i 0 (m + 256) (λ k q. omega arith) ∙ P.up m g);
+      low = one_more _ i (puts_in 256 v a i 0 0 i (omega arith) (lit< tt) (lit< tt) (omega arith))
+          (λ m g. puts_out 256 v a i 0 m (λ k q. omega arith) ∙ P.low m g);
     } in
     rw add-zero at J
 
 -- what is transposed is transposed back
-pub turned-back : (a₀ a : List ℕ) → Turned a₀ a → Turned a a₀
-turned-back a₀ a t j r c hj hr hc = sym (t j c r hj hc hr)
+pub turned_back : (a₀ a : List ℕ) → Turned a₀ a → Turned a a₀
+turned_back a₀ a t j r c hj hr hc = sym (t j c r hj hc hr)
 
 -- the lanes of two planes that are joined and transposed
-module _ (a a′ high low : List ℕ) (t : Turned a a′) (P : Parted 256 a high low) where
-  row-bit : (e i : ℕ) → e < 512 → i < 64 → bit i (getD a′ e 0) ≡ bit (e / 8) (getD a (8 * i + e % 8) 0)
+module _ (a a' high low : List ℕ) (t : Turned a a') (P : Parted 256 a high low) where
+  row-bit : (e i : ℕ) → e < 512 → i < 64 → bit i (get_or a' e 0) ≡ bit (e / 8) (get_or a (8 * i + e % 8) 0)
   unfolding at
   row-bit e i he hi =
       let q : e ≡ 8 * (e / 8) + e % 8 = omega arith in
-      ap (λ (z : ℕ). bit i (getD a′ z 0)) q ∙ t (e % 8) (e / 8) i (omega arith) (omega arith) hi
+      ap (λ (z : ℕ). bit i (get_or a' z 0)) q ∙ t (e % 8) (e / 8) i (omega arith) (omega arith) hi
 
-  pub halved : Halved a′ high low
+  pub halved : Halved a' high low
   halved e he =
-      let x = getD a′ e 0 in (
-        mod-is 32 (x / 2 ^ 32) (lane high e) (lane-lt high e)
+      let x = get_or a' e 0 in (
+        mod_is 32 (x / 2 ^ 32) (lane high e) (lane-lt high e)
             (λ i h.
             let q : 8 * (32 + i) + e % 8 ≡ 8 * i + e % 8 + 256 = omega arith in
             bit-shr 32 i x ∙ row-bit e (32 + i) he (omega arith)
-            ∙ ap (bit (e / 8)) (ap (λ (z : ℕ). getD a z 0) q ∙ P .up (8 * i + e % 8) (omega arith)) ∙ lane-bit high e i h),
-        mod-is 32 x (lane low e) (lane-lt low e)
-            (λ i h. row-bit e i he (omega arith) ∙ ap (bit (e / 8)) (P .low (8 * i + e % 8) (omega arith)) ∙ lane-bit low e i h),
+            ∙ ap (bit (e / 8)) (ap (λ (z : ℕ). get_or a z 0) q ∙ P.up (8 * i + e % 8) (omega arith)) ∙ lane-bit high e i h),
+        mod_is 32 x (lane low e) (lane-lt low e)
+            (λ i h. row-bit e i he (omega arith) ∙ ap (bit (e / 8)) (P.low (8 * i + e % 8) (omega arith)) ∙ lane-bit low e i h),
       )
 
 -- the words of a half
-words-of : (x u v : ℕ) → u < 2 ^ 32 → v < 2 ^ 32 → x ≡ u * 2 ^ 32 + v → (x / 2 ^ 32 % 2 ^ 32 ≡ u) × (x % 2 ^ 32 ≡ v)
-words-of x u v hu hv e = omega arith
+words_of : (x u v : ℕ) → u < 2 ^ 32 → v < 2 ^ 32 → x ≡ u * 2 ^ 32 + v → (x / 2 ^ 32 % 2 ^ 32 ≡ u) × (x % 2 ^ 32 ≡ v)
+words_of x u v hu hv e = omega arith
 
-of-words : (x u v : ℕ) → x < 2 ^ 64 → x / 2 ^ 32 % 2 ^ 32 ≡ u → x % 2 ^ 32 ≡ v → x ≡ u * 2 ^ 32 + v
-of-words x u v h e f = omega arith
+of_words : (x u v : ℕ) → x < 2 ^ 64 → x / 2 ^ 32 % 2 ^ 32 ≡ u → x % 2 ^ 32 ≡ v → x ≡ u * 2 ^ 32 + v
+of_words x u v h e f = omega arith
 
 -- a block in a row is the block in its lane
 module _ (a b x0 x1 x2 x3 : List ℕ) (ha : Halved a x0 x1) (hb : Halved b x2 x3) where
-  lanes-of : (e : ℕ) → e < 512 → (x : List ℕ) → Row x (getD a e 0) (getD b e 0) → lanes x0 x1 x2 x3 e ≡ x
+  lanes-of : (e : ℕ) → e < 512 → (x : List ℕ) → Row x (get_or a e 0) (get_or b e 0) → lanes x0 x1 x2 x3 e ≡ x
   lanes-of e he x r =
-      let w = below-at (2 ^ 32) x (lit< tt) (r .small) in
-      let u = words-of (getD a e 0) (getD x 0 0) (getD x 1 0) (w 0) (w 1) (r .high) in
-      let v = words-of (getD b e 0) (getD x 2 0) (getD x 3 0) (w 2) (w 3) (r .low) in
-      cc (ha e he .0, ha e he .1, hb e he .0, hb e he .1, u .0, u .1, v .0, v .1, four-entries x (r .four))
+      let w = below_at (2 ^ 32) x (lit< tt) r.small in
+      let u = words_of (get_or a e 0) (get_or x 0 0) (get_or x 1 0) (w 0) (w 1) r.high in
+      let v = words_of (get_or b e 0) (get_or x 2 0) (get_or x 3 0) (w 2) (w 3) r.low in
+      cc ((ha e he).0, (ha e he).1, (hb e he).0, (hb e he).1, u.0, u.1, v.0, v.1, four_entries x r.four)
 
-  row-of : ((p : ℕ) → getD a p 0 < 2 ^ 64) → ((p : ℕ) → getD b p 0 < 2 ^ 64) → (e : ℕ) → e < 512
-      → Row (lanes x0 x1 x2 x3 e) (getD a e 0) (getD b e 0)
-  row-of sa sb e he = record {
+  row_of : ((p : ℕ) → get_or a p 0 < 2 ^ 64) → ((p : ℕ) → get_or b p 0 < 2 ^ 64) → (e : ℕ) → e < 512
+      → Row (lanes x0 x1 x2 x3 e) (get_or a e 0) (get_or b e 0)
+  row_of sa sb e he = record {
     four = refl;
     small = lanes-words x0 x1 x2 x3 e;
-    high = of-words (getD a e 0) (lane x0 e) (lane x1 e) (sa e) (ha e he .0) (ha e he .1);
-    low = of-words (getD b e 0) (lane x2 e) (lane x3 e) (sb e) (hb e he .0) (hb e he .1);
+    high = of_words (get_or a e 0) (lane x0 e) (lane x1 e) (sa e) (ha e he).0 (ha e he).1;
+    low = of_words (get_or b e 0) (lane x2 e) (lane x3 e) (sb e) (hb e he).0 (hb e he).1;
   }
 
   -- rows in lanes
-  pub rows-in-lanes : (m : ℕ) (f : ℕ → List ℕ) → m ≤ 512 → Rows m f a b → (i : ℕ) → i < m → lanes x0 x1 x2 x3 (place i) ≡ f i
-  rows-in-lanes m f hm R i hi = lanes-of (place i) (omega arith) (f i) (R .row i hi)
+  pub rows_in_lanes : (m : ℕ) (f : ℕ → List ℕ) → m ≤ 512 → Rows m f a b → (i : ℕ) → i < m → lanes x0 x1 x2 x3 (place i) ≡ f i
+  rows_in_lanes m f hm R i hi = lanes-of (place i) (omega arith) (f i) (R.row i hi)
 
 -- lanes, 32 rounds, and into rows
 module _ (rk a b x0 x1 x2 x3 y0 y1 y2 y3 : List ℕ) (n : ℕ) (hn : n ≤ 8) (ha : Halved a y3 y2) (hb : Halved b y1 y0)
-    (sa : (p : ℕ) → getD a p 0 < 2 ^ 64) (sb : (p : ℕ) → getD b p 0 < 2 ^ 64)
+    (sa : (p : ℕ) → get_or a p 0 < 2 ^ 64) (sb : (p : ℕ) → get_or b p 0 < 2 ^ 64)
     (h : (e : ℕ) → e < 512 → e % 8 < n → lanes y0 y1 y2 y3 e ≡ rounds rk (lanes x0 x1 x2 x3 e)) where
-  pub rows-encrypted : length a ≡ 512 → length b ≡ 512 → (m : ℕ) (f : ℕ → List ℕ) → m ≤ 64 * n
-      → ((i : ℕ) → i < m → lanes x0 x1 x2 x3 (place i) ≡ f i) → Rows m (λ i. encryptWords rk (f i)) a b
-  unfolding encryptWords
-  rows-encrypted la lb m f hm F =
+  pub rows_encrypted : length a ≡ 512 → length b ≡ 512 → (m : ℕ) (f : ℕ → List ℕ) → m ≤ 64 * n
+      → ((i : ℕ) → i < m → lanes x0 x1 x2 x3 (place i) ≡ f i) → Rows m (λ i. encrypt_words rk (f i)) a b
+  unfolding encrypt_words
+  rows_encrypted la lb m f hm F =
       record {
-        size-a = la;
-        size-b = lb;
+        size_a = la;
+        size_b = lb;
         row = λ i hi.
             let e = place i in
             let j : i / 64 < n = omega arith in
             let k : e % 8 ≡ i / 64 = omega arith in
             let he : e < 512 = omega arith in
             let q : lanes y0 y1 y2 y3 e ≡ rounds rk (f i) = h e he (omega arith) ∙ ap (rounds rk) (F i hi) in
-            subst (λ (x : List ℕ). Row (turned x) (getD a e 0) (getD b e 0)) q (row-of a b y3 y2 y1 y0 ha hb sa sb e he);
+            subst (λ (x : List ℕ). Row (turned x) (get_or a e 0) (get_or b e 0)) q (row_of a b y3 y2 y1 y0 ha hb sa sb e he);
       }

@@ -1,54 +1,55 @@
 -- A word added in every lane, row by row with carries: after i rows the sums of the low i bits and the carries are what was to be added.
-use Rattle·sliced·proofs.proofs.Names.{Added, List, RowAdded, WordAdded, [], _%_, _*_, _+_, _/_, _<_, _^_, _∙_, _∷_, _≡_, _≤_, _⊕_, add-one}
-use Rattle·sliced·proofs.proofs.Names.{add-zero, ap, ap₂, arith, bit, bit-and, bit-small, bit-xor, bitAnd, carryAt, differ, each8, getD}
-use Rattle·sliced·proofs.proofs.Names.{getD-set-other, getD-set-same, lane, length, length-set, min, pack, pack-below, pack-is, pow-suc}
-use Rattle·sliced·proofs.proofs.Names.{refl, set, suc, sym, three-bits, word-more, zero, ℕ}
+use Rattle.sliced.proofs.Names.{Added, List, RowAdded, WordAdded, [], ◌%◌, ◌*◌, ◌+◌, ◌/◌, ◌<◌, ◌^◌, ◌∙◌, ◌∷◌, ◌≡◌, ◌≤◌, ◌⊕◌, add-one}
+use Rattle.sliced.proofs.Names.{add-zero, ap, ap₂, arith, bit, bit-and, bit-small, bit-xor, bit_and, carry_at, differ, each8, get_or}
+use Rattle.sliced.proofs.Names.{get_or-set_other, get_or-set_same, lane, length, length-set, min, pack, pack-below, pack_is, pow-suc}
+use Rattle.sliced.proofs.Names.{refl, set, suc, sym, three-bits, word_more, zero, ℕ}
 
 -- three bits, their sum and its carry, in every bit of three words
-word-adder : (k a b m : ℕ) → bit k (a ⊕ b ⊕ m) + 2 * bit k (bitAnd a b ⊕ bitAnd (a ⊕ b) m) ≡ bit k m + bit k a + bit k b
-word-adder k a b m =
+word_adder : (k a b m : ℕ) → bit k (a ⊕ b ⊕ m) + 2 * bit k (bit_and a b ⊕ bit_and (a ⊕ b) m) ≡ bit k m + bit k a + bit k b
+word_adder k a b m =
     simp (bit-xor, bit-and)
     (three-bits (λ a b d. differ (differ a b) d + 2 * differ (min a b) (min (differ a b) d) ≡ d + a + b)
     refl refl refl refl refl refl refl refl (bit k a) (bit k b) (bit k m) (bit-small k a) (bit-small k b) (bit-small k m))
 
 -- as the code stores it
 pub word-added : (p a b m : ℕ) (x : List ℕ) → p < 256 → length x ≡ 256
-    → WordAdded p a b m x (set x p (a ⊕ b ⊕ m)) (bitAnd a b ⊕ bitAnd (a ⊕ b) m)
+    → WordAdded p a b m x (set x p (a ⊕ b ⊕ m)) (bit_and a b ⊕ bit_and (a ⊕ b) m)
 word-added p a b m x hp hx =
     let u = a ⊕ b ⊕ m in
-    let v = bitAnd a b ⊕ bitAnd (a ⊕ b) m in
+    let v = bit_and a b ⊕ bit_and (a ⊕ b) m in
     record {
       size = length-set x p u ∙ hx;
-      sum = λ k. ap (λ (s : ℕ). bit k s + 2 * bit k v) (getD-set-same x p u 0 (omega arith)) ∙ word-adder k a b m;
-      same = λ q h. getD-set-other x p q u 0 h;
+      sum = λ k. ap (λ (s : ℕ). bit k s + 2 * bit k v) (get_or-set_same x p u 0 (omega arith)) ∙ word_adder k a b m;
+      same = λ q h. get_or-set_other x p q u 0 h;
     }
 
 -- eight words from p on
-pub eight-words : (x : List ℕ) (p q : ℕ) → q < 8
-    → getD (getD x p 0 ∷ getD x (p + 1) 0 ∷ getD x (p + 2) 0 ∷ getD x (p + 3) 0
-    ∷ getD x (p + 4) 0 ∷ getD x (p + 5) 0 ∷ getD x (p + 6) 0 ∷ getD x (p + 7) 0 ∷ []) q 0
-    ≡ getD x (p + q) 0
-eight-words x p =
-    each8 _ (ap (λ (z : ℕ). getD x z 0) (sym (add-zero p))) refl refl refl refl refl refl refl
+pub eight_words : (x : List ℕ) (p q : ℕ) → q < 8
+    → get_or (get_or x p 0 ∷ get_or x (p + 1) 0 ∷ get_or x (p + 2) 0 ∷ get_or x (p + 3) 0
+    ∷ get_or x (p + 4) 0 ∷ get_or x (p + 5) 0 ∷ get_or x (p + 6) 0 ∷ get_or x (p + 7) 0 ∷ []) q 0
+    ≡ get_or x (p + q) 0
+eight_words x p =
+    each8 _ (ap (λ (z : ℕ). get_or x z 0) (sym (add-zero p))) refl refl refl refl refl refl refl
 
 -- a row of which j words are added
 pub added-first : (m i : ℕ) (a x y : List ℕ) → length x ≡ 256 → length y ≡ 8 → RowAdded m i 0 a x y x y
 added-first m i a x y hx hy =
-    record { size-x = hx; size-y = hy; sum = λ q k hq. absurd (omega arith); same-x = λ p h. refl; same-y = λ q h. refl }
+    record { size_x = hx; size_y = hy; sum = λ q k hq. absurd (omega arith); same_x = λ p h. refl; same_y = λ q h. refl }
 
-pub added-next : (m i : ℕ) (a x₀ y₀ : List ℕ) (j c : ℕ) (x y x′ : List ℕ) → j < 8
-    → WordAdded (8 * i + j) (getD a j 0) (getD y j 0) m x x′ c → RowAdded m i j a x₀ y₀ x y → RowAdded m i (j + 1) a x₀ y₀ x′ (set y j c)
-added-next m i a x₀ y₀ j c x y x′ hj W R =
-    let ly = R .size-y in
+pub added_next : (m i : ℕ) (a x₀ y₀ : List ℕ) (j c : ℕ) (x y x' : List ℕ) → j < 8
+    → WordAdded (8 * i + j) (get_or a j 0) (get_or y j 0) m x x' c
+    → RowAdded m i j a x₀ y₀ x y → RowAdded m i (j + 1) a x₀ y₀ x' (set y j c)
+added_next m i a x₀ y₀ j c x y x' hj W R =
+    let ly = R.size_y in
     record {
-      size-x = W .size;
-      size-y = length-set y j c ∙ ly;
+      size_x = W.size;
+      size_y = length-set y j c ∙ ly;
       sum = λ q k hq.
-          word-more j c y (omega arith)
-          (λ z t. bit k (getD x′ (8 * i + z) 0) + 2 * bit k t ≡ bit k m + bit k (getD a z 0) + bit k (getD y₀ z 0))
-          (rw (← R .same-y j (omega arith)) (W .sum k)) (λ z h. rw (W .same (8 * i + z) (λ e. omega arith)) (R .sum z k h)) q hq;
-      same-x = λ z h. W .same z (λ e. h j (omega arith) e) ∙ R .same-x z (λ q g e. h q (omega arith) e);
-      same-y = λ q h. getD-set-other y j q c 0 (λ e. omega arith) ∙ R .same-y q (omega arith);
+          word_more j c y (omega arith)
+          (λ z t. bit k (get_or x' (8 * i + z) 0) + 2 * bit k t ≡ bit k m + bit k (get_or a z 0) + bit k (get_or y₀ z 0))
+          (rw (← R.same_y j (omega arith)) (W.sum k)) (λ z h. rw (W.same (8 * i + z) (λ e. omega arith)) (R.sum z k h)) q hq;
+      same_x = λ z h. W.same z (λ e. h j (omega arith) e) ∙ R.same_x z (λ q g e. h q (omega arith) e);
+      same_y = λ q h. get_or-set_other y j q c 0 (λ e. omega arith) ∙ R.same_y q (omega arith);
     }
 
 -- the number of one bit more
@@ -62,41 +63,41 @@ pack-next k f = rw (add-one k) (pack-suc k f)
 
 -- the low i bits of lane e
 pub low : List ℕ → ℕ → ℕ → ℕ
-low x e i = pack i (λ k. bit (e / 8) (getD x (8 * k + e % 8) 0))
+low x e i = pack i (λ k. bit (e / 8) (get_or x (8 * k + e % 8) 0))
 
 -- the low i bits of w, added in every lane; the rows from i on stand as they were
 pub record Rippled (w i : ℕ) (x₀ y₀ x y : List ℕ) : Type 0 where
-  pub sum : (e : ℕ) → e < 512 → low x e i + 2 ^ i * carryAt y e ≡ pack i (λ k. bit k w) + low x₀ e i + carryAt y₀ e
-  pub rest : (p : ℕ) → 8 * i ≤ p → getD x p 0 ≡ getD x₀ p 0
+  pub sum : (e : ℕ) → e < 512 → low x e i + 2 ^ i * carry_at y e ≡ pack i (λ k. bit k w) + low x₀ e i + carry_at y₀ e
+  pub rest : (p : ℕ) → 8 * i ≤ p → get_or x p 0 ≡ get_or x₀ p 0
 
-pub rippled-first : (w : ℕ) (x y : List ℕ) → Rippled w 0 x y x y
+pub rippled_first : (w : ℕ) (x y : List ℕ) → Rippled w 0 x y x y
 unfolding low pack
-rippled-first w x y = record { sum = λ e he. omega arith; rest = λ p h. refl }
+rippled_first w x y = record { sum = λ e he. omega arith; rest = λ p h. refl }
 
-pub rippled-next : (w i m : ℕ) (a x₀ y₀ x y x′ y′ : List ℕ) → ((k : ℕ) → k < 64 → bit k m ≡ bit i w)
-    → ((q : ℕ) → q < 8 → getD a q 0 ≡ getD x (8 * i + q) 0) → Rippled w i x₀ y₀ x y → RowAdded m i 8 a x y x′ y′
-    → Rippled w (i + 1) x₀ y₀ x′ y′
-unfolding low carryAt
-rippled-next w i m a x₀ y₀ x y x′ y′ hm ha P R =
+pub rippled_next : (w i m : ℕ) (a x₀ y₀ x y x' y' : List ℕ) → ((k : ℕ) → k < 64 → bit k m ≡ bit i w)
+    → ((q : ℕ) → q < 8 → get_or a q 0 ≡ get_or x (8 * i + q) 0) → Rippled w i x₀ y₀ x y → RowAdded m i 8 a x y x' y'
+    → Rippled w (i + 1) x₀ y₀ x' y'
+unfolding low carry_at
+rippled_next w i m a x₀ y₀ x y x' y' hm ha P R =
     record {
       sum = λ e he.
           let p = 8 * i + e % 8 in
-          let f : List ℕ → ℕ → ℕ = λ l k. bit (e / 8) (getD l (8 * k + e % 8) 0) in
-          let kept : low x′ e i ≡ low x e i =
-          pack-below i (f x′) (f x) (λ k h. ap (bit (e / 8)) (R .same-x (8 * k + e % 8) (λ q g z. omega arith))) in
-          let was : bit (e / 8) (getD a (e % 8) 0) ≡ bit (e / 8) (getD x₀ p 0) =
-          ap (bit (e / 8)) (ha (e % 8) (omega arith) ∙ P .rest p (omega arith)) in
-          let row : bit (e / 8) (getD x′ p 0) + 2 * carryAt y′ e ≡ bit i w + bit (e / 8) (getD x₀ p 0) + carryAt y e =
-          R .sum (e % 8) (e / 8) (omega arith) ∙ ap₂ (λ (u v : ℕ). u + v + carryAt y e) (hm (e / 8) (omega arith)) was in
+          let f : List ℕ → ℕ → ℕ = λ l k. bit (e / 8) (get_or l (8 * k + e % 8) 0) in
+          let kept : low x' e i ≡ low x e i =
+          pack-below i (f x') (f x) (λ k h. ap (bit (e / 8)) (R.same_x (8 * k + e % 8) (λ q g z. omega arith))) in
+          let was : bit (e / 8) (get_or a (e % 8) 0) ≡ bit (e / 8) (get_or x₀ p 0) =
+          ap (bit (e / 8)) (ha (e % 8) (omega arith) ∙ P.rest p (omega arith)) in
+          let row : bit (e / 8) (get_or x' p 0) + 2 * carry_at y' e ≡ bit i w + bit (e / 8) (get_or x₀ p 0) + carry_at y e =
+          R.sum (e % 8) (e / 8) (omega arith) ∙ ap₂ (λ (u v : ℕ). u + v + carry_at y e) (hm (e / 8) (omega arith)) was in
           let double : 2 ^ (i + 1) ≡ 2 ^ i * 2 = rw (add-one i) (pow-suc 2 i) in
           let weighed = ap (λ (v : ℕ). 2 ^ i * v) row in
-          let before = P .sum e he in
-          rw (pack-next i (f x′), pack-next i (f x₀), pack-next i (λ k. bit k w), kept, double) (omega arith);
-      rest = λ p h. R .same-x p (λ q g e. omega arith) ∙ P .rest p (omega arith);
+          let before = P.sum e he in
+          rw (pack-next i (f x'), pack-next i (f x₀), pack-next i (λ k. bit k w), kept, double) (omega arith);
+      rest = λ p h. R.same_x p (λ q g e. omega arith) ∙ P.rest p (omega arith);
     }
 
-pub rippled-last : (w i : ℕ) (x₀ y₀ x y : List ℕ) → i ≡ 32 → w < 2 ^ 32 → Rippled w i x₀ y₀ x y → Added w x₀ y₀ x y
+pub rippled_last : (w i : ℕ) (x₀ y₀ x y : List ℕ) → i ≡ 32 → w < 2 ^ 32 → Rippled w i x₀ y₀ x y → Added w x₀ y₀ x y
 unfolding low lane
-rippled-last w i x₀ y₀ x y h hw P e he =
-    let whole : pack 32 (λ k. bit k w) ≡ w = pack-is 32 (λ k. bit k w) w (λ k. bit-small k w) hw (λ k g. refl) in
-    (rw h at (P .sum e he)) ∙ ap (λ (v : ℕ). v + low x₀ e 32 + carryAt y₀ e) whole
+rippled_last w i x₀ y₀ x y h hw P e he =
+    let whole : pack 32 (λ k. bit k w) ≡ w = pack_is 32 (λ k. bit k w) w (λ k. bit-small k w) hw (λ k g. refl) in
+    (rw h at (P.sum e he)) ∙ ap (λ (v : ℕ). v + low x₀ e 32 + carry_at y₀ e) whole

@@ -1,10 +1,8 @@
 -- A round in every lane.
-use mathlib.Core.List.{List, [], _∷_}
-use Prim.Native.Nat.{ℕ, _+_}
-use lib.ListN.{getD}
-use Rattle·block.specs.Xor.{_⊕_}
-use Rattle·cipher.specs.Sm4.{tau, L}
-use Rattle·sliced·specs.specs.Lanes.{lane}
+use Rattle.std.specs.Prelude.{List, [], ◌∷◌, ℕ, ◌+◌, get_or}
+use Rattle.block.specs.Xor.{◌⊕◌}
+use Rattle.cipher.specs.Sm4.{tau, L}
+use Rattle.sliced.specs.Lanes.{lane}
 
 -- what goes into the S-boxes of lane e
 unfoldable pub keyed : List ℕ → List ℕ → List ℕ → ℕ → ℕ → ℕ
@@ -20,7 +18,7 @@ mixed f a e = lane a e ⊕ L (f e)
 
 -- three planes and a mask, added at one place
 abbrev pub summed : List ℕ → List ℕ → List ℕ → List ℕ → ℕ → ℕ → ℕ
-summed x y z m q i = getD x q 0 ⊕ getD y q 0 ⊕ getD z q 0 ⊕ getD m i 0
+summed x y z m q i = get_or x q 0 ⊕ get_or y q 0 ⊕ get_or z q 0 ⊕ get_or m i 0
 
 -- the eight words that go into the S-boxes of a column, eight places apart from p on
 abbrev pub column : List ℕ → List ℕ → List ℕ → List ℕ → ℕ → List ℕ

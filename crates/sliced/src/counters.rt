@@ -1,27 +1,25 @@
 // A batch of counters. They differ by their numbers alone, so their lanes are made by adding these, bit by bit, in place of transposing
 // blocks. All eight columns are made, however few are needed: the carries of a whole row then stay in registers, which takes no more
 // than a loop over two columns does.
-ghost use mathlib.Core.Path.{_≡_};
-ghost use Prim.Native.Nat.{ℕ, _+_, _*_, _<_, _≤_};
-ghost use lib.ListN.{length, getD};
-ghost use Rattle·block.specs.Blocks.{blockAt, cat};
-ghost use Rattle·block.specs.Words.{words, unwords};
-ghost use Rattle·block.specs.Xor.{xors};
-ghost use Rattle·lanes.specs.Bits.{bit, Masks};
-ghost use Rattle·cipher.specs.Sm4.{encryptBlock};
-ghost use Rattle·counter.specs.Counter.{jumped};
-ghost use Rattle·block.specs.Over.{over};
-ghost use Rattle·sliced·specs.specs.Lanes.{lane, lanes};
-ghost use Rattle·sliced·specs.specs.Counting.{numberAt, Clear, Kept, WordAdded, RowAdded, Added};
-use crate::columns_of;
-use crate::rounds_to_rows;
+ghost use Rattle.std.specs.Prelude.{◌≡◌, ℕ, ◌+◌, ◌*◌, ◌<◌, ◌≤◌, length, get_or};
+ghost use Rattle.block.specs.Blocks.{block_at, cat};
+ghost use Rattle.block.specs.Words.{words, unwords};
+ghost use Rattle.block.specs.Xor.{xors};
+ghost use Rattle.lanes.specs.Bits.{bit, Masks};
+ghost use Rattle.cipher.specs.Sm4.{encrypt_block};
+ghost use Rattle.counter.specs.Counter.{jumped};
+ghost use Rattle.block.specs.Over.{over};
+ghost use Rattle.sliced.specs.Lanes.{lane, lanes};
+ghost use Rattle.sliced.specs.Counting.{number_at, Clear, Kept, WordAdded, RowAdded, Added};
+
+use crate::{columns_of, rounds_to_rows};
 
 // The number of its block into every lane: a row for each of its nine bits. Block i stands at bit i % 64 of column i / 64, so that the low
 // six bits of its number are the same in every column, and the other three in every row.
 fn numbers(x: &mut [u64; 256])
-    requires { ⌜ Clear (now x) ⌝ }
-    ensures { λ _. ⌜ ((e : ℕ) → e < 512 → lane (now (x .exit)) e ≡ numberAt e) ⌝ }
-    ensures { λ _. ⌜ (length (now (x .exit)) ≡ 256) × ((p : ℕ) → 72 ≤ p → getD (now (x .exit)) p 0 ≡ 0) ⌝ }
+    requires { Clear x.old }
+    ensures by_index { (e : ℕ) → e < 512 → lane x.new e ≡ number_at e }
+    ensures x_len { (length x.new ≡ 256) × ((p : ℕ) → 72 ≤ p → get_or x.new p 0 ≡ 0) }
 {
     let low: [u64; 6] = [
         0xaaaa_aaaa_aaaa_aaaa,
@@ -44,9 +42,9 @@ fn numbers(x: &mut [u64; 256])
 
 // The masks of all bits of k. They are kept in memory, so that the back end makes no branches of them.
 fn word_masks(k: u32, m: &mut [u64; 32])
-    requires { ⌜ length (now m) ≡ 32 ⌝ }
-    ensures { λ _. ⌜ Masks 32 (λ i. bit i k) (now (m .exit)) ⌝ }
-    ensures { λ _. ⌜ length (now (m .exit)) ≡ 32 ⌝ }
+    requires { length m.old ≡ 32 }
+    ensures masks { Masks 32 (λ i. bit i k) m.new }
+    ensures m_len { length m.new ≡ 32 }
 {
     let mut i: usize = 0;
     while i < 32 {
@@ -57,8 +55,8 @@ fn word_masks(k: u32, m: &mut [u64; 32])
 
 // Row i of x.
 fn row(x: &[u64; 256], i: usize) -> [u64; 8]
-    requires { ⌜ (i < 32) × (length (now x) ≡ 256) ⌝ }
-    ensures { λ r. ⌜ ((q : ℕ) → q < 8 → getD r q 0 ≡ getD (now (x .entry)) (8 * i + q) 0) ⌝ }
+    requires { (i < 32) × (length x.now ≡ 256) }
+    ensures { (q : ℕ) → q < 8 → get_or result q 0 ≡ get_or x.now (8 * i + q) 0 }
 {
     let p = 8 * i;
     [
@@ -75,8 +73,8 @@ fn row(x: &[u64; 256], i: usize) -> [u64; 8]
 
 // The bits of a, the carries b and the bit of the mask m, added in every lane: the sums into word p of x, and the carries back.
 fn add_at(x: &mut [u64; 256], p: usize, a: u64, b: u64, m: u64) -> u64
-    requires { ⌜ (p < 256) × (length (now x) ≡ 256) ⌝ }
-    ensures { λ r. ⌜ WordAdded p a b m (now (x .entry)) (now (x .exit)) r ⌝ }
+    requires { (p < 256) × (length x.old ≡ 256) }
+    ensures { WordAdded p a b m x.old x.new result }
 {
     let t = a ^ b;
     x[p] = t ^ m;
@@ -85,8 +83,8 @@ fn add_at(x: &mut [u64; 256], p: usize, a: u64, b: u64, m: u64) -> u64
 
 // The bits of eight words a, the carries y and the bit of the mask m: the sums into row i of x, the carries into y.
 fn add_row(x: &mut [u64; 256], a: [u64; 8], y: &mut [u64; 8], m: u64, i: usize)
-    requires { ⌜ (i < 32) × (length (now x) ≡ 256) × (length (now y) ≡ 8) ⌝ }
-    ensures { λ _. ⌜ RowAdded m i 8 a (now (x .entry)) (now (y .entry)) (now (x .exit)) (now (y .exit)) ⌝ }
+    requires { (i < 32) × (length x.old ≡ 256) × (length y.old ≡ 8) }
+    ensures { RowAdded m i 8 a x.old y.old x.new y.new }
 {
     let p = 8 * i;
     y[0] = add_at(x, p, a[0], y[0], m);
@@ -102,8 +100,8 @@ fn add_row(x: &mut [u64; 256], a: [u64; 8], y: &mut [u64; 8], m: u64, i: usize)
 // The word w, added in every lane to the words of x and the carries y: the sums into x, and the carries back. Only the first n rows of x hold
 // anything, and only they are read.
 fn add_word(x: &mut [u64; 256], n: usize, y: [u64; 8], w: u32) -> [u64; 8]
-    requires { ⌜ (n ≤ 32) × (length (now x) ≡ 256) × ((p : ℕ) → 8 * n ≤ p → getD (now x) p 0 ≡ 0) ⌝ }
-    ensures { λ r. ⌜ Added w (now (x .entry)) y (now (x .exit)) r × (length (now (x .exit)) ≡ 256) ⌝ }
+    requires { (n ≤ 32) × (length x.old ≡ 256) × ((p : ℕ) → 8 * n ≤ p → get_or x.old p 0 ≡ 0) }
+    ensures { Added w x.old y x.new result × (length x.new ≡ 256) }
 {
     let mut m = [0u64; 32];
     word_masks(w, &mut m);
@@ -122,7 +120,7 @@ fn add_word(x: &mut [u64; 256], n: usize, y: [u64; 8], w: u32) -> [u64; 8]
 
 // The carries out of the last word: kept where all four words count, else none.
 fn keep_carries(wide: bool, y: [u64; 8]) -> [u64; 8]
-    ensures { λ r. ⌜ Kept wide y r ⌝ }
+    ensures { Kept wide y result }
 {
     if wide {
         return y;
@@ -139,9 +137,9 @@ fn count(
     x2: &mut [u64; 256],
     x3: &mut [u64; 256],
 )
-    requires { ⌜ Clear (now x0) × Clear (now x1) × Clear (now x2) × Clear (now x3) ⌝ }
-    ensures { λ _. ⌜ ((e : ℕ) → e < 512 → lanes (now (x0 .exit)) (now (x1 .exit)) (now (x2 .exit)) (now (x3 .exit)) e ≡ words (jumped wide (unwords c) (numberAt e))) ⌝ }
-    ensures { λ _. ⌜ (length (now (x0 .exit)) ≡ 256) × (length (now (x1 .exit)) ≡ 256) × (length (now (x2 .exit)) ≡ 256) × (length (now (x3 .exit)) ≡ 256) ⌝ }
+    requires { Clear x0.old × Clear x1.old × Clear x2.old × Clear x3.old }
+    ensures by_index { (e : ℕ) → e < 512 → lanes x0.new x1.new x2.new x3.new e ≡ words (jumped wide (unwords c) (number_at e)) }
+    ensures x0_len { (length x0.new ≡ 256) × (length x1.new ≡ 256) × (length x2.new ≡ 256) × (length x3.new ≡ 256) }
 {
     numbers(x3);
     let y3 = add_word(x3, 9, [0u64; 8], c[3]);
@@ -160,8 +158,8 @@ pub fn encrypt_counters(
     with: &[u8],
     out: &mut [u8],
 )
-    requires { ⌜ (m ≤ 512) × (16 * m ≤ length (now «with»)) × (16 * m ≤ length (now out)) ⌝ }
-    ensures { λ _. ⌜ now (out .exit) ≡ over (cat m (λ i. xors (blockAt (now («with» .entry)) i) (encryptBlock rk (jumped wide (unwords c) i)))) (now (out .entry)) ⌝ }
+    requires { (m ≤ 512) × (16 * m ≤ length «with».now) × (16 * m ≤ length out.old) }
+    ensures { out.new ≡ over (cat m (λ i. xors (block_at «with».now i) (encrypt_block rk (jumped wide (unwords c) i)))) out.old }
 {
     let mut x0 = [0u64; 256];
     let mut x1 = [0u64; 256];

@@ -3,25 +3,25 @@
 //
 // The gates of the rounds work on the first n columns alone. n is a parameter all the way down, since a loop whose count the back end knows
 // is not vectorized here.
+
+#![tactic(auto)]
+
 pub mod counters;
 
-ghost use mathlib.Core.Path.{_≡_};
-ghost use mathlib.Core.List.{List, [], _∷_};
-ghost use Prim.Native.Nat.{ℕ, _+_, _*_, _%_, _^_, _<_, _≤_};
-ghost use lib.ListN.{length, getD};
-ghost use Rattle·block.specs.Blocks.{blockAt, cat};
-ghost use Rattle·block.specs.Xor.{_⊕_, xors};
-ghost use Rattle·lanes.specs.Bits.{bit, Masks};
-ghost use Rattle·cipher.specs.Sm4.{T, rounds, encryptWords, encryptBlock};
-ghost use Rattle·rows.specs.Rows.{place, Sized, Rows};
-ghost use Rattle·block.specs.Over.{over};
-ghost use Rattle·sliced·specs.specs.Lanes.{lane, lanes, Held, Planes, Parted, Halved};
-ghost use Rattle·sliced·specs.specs.Round.{keyed, subbed, mixed, column};
+ghost use Rattle.std.specs.Prelude.{◌≡◌, List, [], ◌∷◌, ℕ, ◌+◌, ◌*◌, ◌%◌, ◌^◌, ◌<◌, ◌≤◌, length, get_or};
+ghost use Rattle.block.specs.Blocks.{block_at, cat};
+ghost use Rattle.block.specs.Xor.{◌⊕◌, xors};
+ghost use Rattle.lanes.specs.Bits.{bit, Masks};
+ghost use Rattle.cipher.specs.Sm4.{T, rounds, encrypt_words, encrypt_block};
+ghost use Rattle.rows.specs.Rows.{place, Sized, Rows};
+ghost use Rattle.block.specs.Over.{over};
+ghost use Rattle.sliced.specs.Lanes.{lane, lanes, Held, Planes, Parted, Halved};
+ghost use Rattle.sliced.specs.Round.{keyed, subbed, mixed, column};
 
 // The masks of byte b of k.
 fn masks(k: u32, b: usize) -> [u64; 8]
-    requires { ⌜ b < 4 ⌝ }
-    ensures { λ r. ⌜ Masks 8 (λ i. bit (8 * b + i) k) r ⌝ }
+    requires { b < 4 }
+    ensures { Masks 8 (λ i. bit (8 * b + i) k) result }
 {
     let w = k as u64;
     [
@@ -38,18 +38,18 @@ fn masks(k: u32, b: usize) -> [u64; 8]
 
 // Three planes, added at one place.
 fn three(x: &[u64; 256], y: &[u64; 256], z: &[u64; 256], q: usize) -> u64
-    requires { ⌜ q < 256 ⌝ }
-    requires { ⌜ (length (now x) ≡ 256) × (length (now y) ≡ 256) × (length (now z) ≡ 256) ⌝ }
-    ensures { λ r. ⌜ r ≡ getD (now (x .entry)) q 0 ⊕ getD (now (y .entry)) q 0 ⊕ getD (now (z .entry)) q 0 ⌝ }
+    requires q_bound { q < 256 }
+    requires x_len { (length x.now ≡ 256) × (length y.now ≡ 256) × (length z.now ≡ 256) }
+    ensures { result ≡ get_or x.now q 0 ⊕ get_or y.now q 0 ⊕ get_or z.now q 0 }
 {
     x[q] ^ y[q] ^ z[q]
 }
 
 // What goes into the S-boxes of one column.
 fn column_at(x: &[u64; 256], y: &[u64; 256], z: &[u64; 256], m: [u64; 8], p: usize) -> [u64; 8]
-    requires { ⌜ p + 56 < 256 ⌝ }
-    requires { ⌜ (length (now x) ≡ 256) × (length (now y) ≡ 256) × (length (now z) ≡ 256) ⌝ }
-    ensures { λ r. ⌜ r ≡ column (now (x .entry)) (now (y .entry)) (now (z .entry)) m p ⌝ }
+    requires p_bound { p + 56 < 256 }
+    requires x_len { (length x.now ≡ 256) × (length y.now ≡ 256) × (length z.now ≡ 256) }
+    ensures { result ≡ column x.now y.now z.now m p }
 {
     [
         three(x, y, z, p) ^ m[0],
@@ -73,11 +73,11 @@ fn sub_byte(
     b: usize,
     n: usize,
 )
-    requires { ⌜ (b < 4) × (n ≤ 8) ⌝ }
-    requires { ⌜ (length (now s) ≡ 512) × (length (now x) ≡ 256) × (length (now y) ≡ 256) × (length (now z) ≡ 256) ⌝ }
-    requires { ⌜ Held (subbed (now x) (now y) (now z) k) n (64 * b) (now s) ⌝ }
-    ensures { λ _. ⌜ Held (subbed (now (x .entry)) (now (y .entry)) (now (z .entry)) k) n (64 * b + 64) (now (s .exit)) ⌝ }
-    ensures { λ _. ⌜ length (now (s .exit)) ≡ 512 ⌝ }
+    requires b_bound { (b < 4) × (n ≤ 8) }
+    requires s_len { (length s.old ≡ 512) × (length x.now ≡ 256) × (length y.now ≡ 256) × (length z.now ≡ 256) }
+    requires held { Held (subbed x.now y.now z.now k) n (64 * b) s.old }
+    ensures held_2 { Held (subbed x.now y.now z.now k) n (64 * b + 64) s.new }
+    ensures s_len_2 { length s.new ≡ 512 }
 {
     let m = masks(k, b);
     let mut j: usize = 0;
@@ -98,9 +98,9 @@ fn sub_byte(
 
 // The first half of s once more behind it, so that a rotation is a distance.
 fn double(s: &mut [u64; 512])
-    requires { ⌜ length (now s) ≡ 512 ⌝ }
-    ensures { λ _. ⌜ ((f : ℕ → ℕ) (n : ℕ) → Held f n 256 (now (s .entry)) → Held f n 512 (now (s .exit))) ⌝ }
-    ensures { λ _. ⌜ length (now (s .exit)) ≡ 512 ⌝ }
+    requires { length s.old ≡ 512 }
+    ensures by_index { (f : ℕ → ℕ) (n : ℕ) → Held f n 256 s.old → Held f n 512 s.new }
+    ensures s_len { length s.new ≡ 512 }
 {
     let mut i: usize = 0;
     while i < 256 {
@@ -111,9 +111,9 @@ fn double(s: &mut [u64; 512])
 
 // L of what s holds, added to a.
 fn mix(a: &mut [u64; 256], s: &[u64; 512])
-    requires { ⌜ (length (now a) ≡ 256) × (length (now s) ≡ 512) ⌝ }
-    ensures { λ _. ⌜ ((f : ℕ → ℕ) (n : ℕ) → ((e : ℕ) → f e < 2 ^ 32) → Held f n 512 (now (s .entry)) → Held (mixed f (now (a .entry))) n 256 (now (a .exit))) ⌝ }
-    ensures { λ _. ⌜ length (now (a .exit)) ≡ 256 ⌝ }
+    requires { (length a.old ≡ 256) × (length s.now ≡ 512) }
+    ensures by_index { (f : ℕ → ℕ) (n : ℕ) → ((e : ℕ) → f e < 2 ^ 32) → Held f n 512 s.now → Held (mixed f a.old) n 256 a.new }
+    ensures a_len { length a.new ≡ 256 }
 {
     let mut i: usize = 0;
     while i < 256 {
@@ -132,10 +132,10 @@ fn round(
     k: u32,
     n: usize,
 )
-    requires { ⌜ n ≤ 8 ⌝ }
-    requires { ⌜ Planes (now a) (now b) (now c) (now d) (now s) ⌝ }
-    ensures { λ _. ⌜ ((e : ℕ) → e < 512 → e % 8 < n → lane (now (a .exit)) e ≡ lane (now (a .entry)) e ⊕ T (keyed (now (b .entry)) (now (c .entry)) (now (d .entry)) k e)) ⌝ }
-    ensures { λ _. ⌜ (length (now (a .exit)) ≡ 256) × (length (now (s .exit)) ≡ 512) ⌝ }
+    requires n_bound { n ≤ 8 }
+    requires planes { Planes a.old b.now c.now d.now s.old }
+    ensures by_index { (e : ℕ) → e < 512 → e % 8 < n → lane a.new e ≡ lane a.old e ⊕ T (keyed b.now c.now d.now k e) }
+    ensures a_len { (length a.new ≡ 256) × (length s.new ≡ 512) }
 {
     let mut q: usize = 0;
     while q < 4 {
@@ -159,10 +159,10 @@ fn four(
     o: u32,
     n: usize,
 )
-    requires { ⌜ n ≤ 8 ⌝ }
-    requires { ⌜ Planes (now a) (now b) (now c) (now d) (now s) ⌝ }
-    ensures { λ _. ⌜ ((e : ℕ) → e < 512 → e % 8 < n → lanes (now (a .exit)) (now (b .exit)) (now (c .exit)) (now (d .exit)) e ≡ rounds (k ∷ l ∷ m ∷ o ∷ []) (lanes (now (a .entry)) (now (b .entry)) (now (c .entry)) (now (d .entry)) e)) ⌝ }
-    ensures { λ _. ⌜ Planes (now (a .exit)) (now (b .exit)) (now (c .exit)) (now (d .exit)) (now (s .exit)) ⌝ }
+    requires n_bound { n ≤ 8 }
+    requires planes { Planes a.old b.old c.old d.old s.old }
+    ensures by_index { (e : ℕ) → e < 512 → e % 8 < n → lanes a.new b.new c.new d.new e ≡ rounds (k ∷ l ∷ m ∷ o ∷ []) (lanes a.old b.old c.old d.old e) }
+    ensures planes_2 { Planes a.new b.new c.new d.new s.new }
 {
     round(a, b, c, d, s, k, n);
     round(b, c, d, a, s, l, n);
@@ -180,10 +180,10 @@ fn all_rounds(
     rk: [u32; 32],
     n: usize,
 )
-    requires { ⌜ n ≤ 8 ⌝ }
-    requires { ⌜ Planes (now a) (now b) (now c) (now d) (now s) ⌝ }
-    ensures { λ _. ⌜ ((e : ℕ) → e < 512 → e % 8 < n → lanes (now (a .exit)) (now (b .exit)) (now (c .exit)) (now (d .exit)) e ≡ rounds rk (lanes (now (a .entry)) (now (b .entry)) (now (c .entry)) (now (d .entry)) e)) ⌝ }
-    ensures { λ _. ⌜ Planes (now (a .exit)) (now (b .exit)) (now (c .exit)) (now (d .exit)) (now (s .exit)) ⌝ }
+    requires n_bound { n ≤ 8 }
+    requires planes { Planes a.old b.old c.old d.old s.old }
+    ensures by_index { (e : ℕ) → e < 512 → e % 8 < n → lanes a.new b.new c.new d.new e ≡ rounds rk (lanes a.old b.old c.old d.old e) }
+    ensures planes_2 { Planes a.new b.new c.new d.new s.new }
 {
     let mut i: usize = 0;
     while i < 32 {
@@ -194,9 +194,9 @@ fn all_rounds(
 
 // The upper and the lower rows of a.
 fn part(a: &[u64; 512], upper: &mut [u64; 256], lower: &mut [u64; 256])
-    requires { ⌜ (length (now a) ≡ 512) × (length (now upper) ≡ 256) × (length (now lower) ≡ 256) ⌝ }
-    ensures { λ _. ⌜ Parted 256 (now (a .entry)) (now (upper .exit)) (now (lower .exit)) ⌝ }
-    ensures { λ _. ⌜ (length (now (upper .exit)) ≡ 256) × (length (now (lower .exit)) ≡ 256) ⌝ }
+    requires { (length a.now ≡ 512) × (length upper.old ≡ 256) × (length lower.old ≡ 256) }
+    ensures parted { Parted 256 a.now upper.new lower.new }
+    ensures upper_len { (length upper.new ≡ 256) × (length lower.new ≡ 256) }
 {
     let mut i: usize = 0;
     while i < 256 {
@@ -208,9 +208,9 @@ fn part(a: &[u64; 512], upper: &mut [u64; 256], lower: &mut [u64; 256])
 
 // And back.
 fn join(upper: &[u64; 256], lower: &[u64; 256], a: &mut [u64; 512])
-    requires { ⌜ (length (now a) ≡ 512) × (length (now upper) ≡ 256) × (length (now lower) ≡ 256) ⌝ }
-    ensures { λ _. ⌜ Parted 256 (now (a .exit)) (now (upper .entry)) (now (lower .entry)) ⌝ }
-    ensures { λ _. ⌜ length (now (a .exit)) ≡ 512 ⌝ }
+    requires { (length a.old ≡ 512) × (length upper.now ≡ 256) × (length lower.now ≡ 256) }
+    ensures parted { Parted 256 a.new upper.now lower.now }
+    ensures a_len { length a.new ≡ 512 }
 {
     let mut i: usize = 0;
     while i < 256 {
@@ -222,9 +222,9 @@ fn join(upper: &[u64; 256], lower: &[u64; 256], a: &mut [u64; 512])
 
 // Halves of blocks into the lanes of two planes. What a has then is not said.
 fn enter(a: &mut [u64; 512], high: &mut [u64; 256], low: &mut [u64; 256])
-    requires { ⌜ (length (now a) ≡ 512) × (length (now high) ≡ 256) × (length (now low) ≡ 256) ⌝ }
-    ensures { λ _. ⌜ Halved (now (a .entry)) (now (high .exit)) (now (low .exit)) ⌝ }
-    ensures { λ _. ⌜ (length (now (a .exit)) ≡ 512) × (length (now (high .exit)) ≡ 256) × (length (now (low .exit)) ≡ 256) ⌝ }
+    requires { (length a.old ≡ 512) × (length high.old ≡ 256) × (length low.old ≡ 256) }
+    ensures halved { Halved a.old high.new low.new }
+    ensures a_len { (length a.new ≡ 512) × (length high.new ≡ 256) × (length low.new ≡ 256) }
 {
     rows::transpose(a);
     part(a, high, low);
@@ -232,9 +232,9 @@ fn enter(a: &mut [u64; 512], high: &mut [u64; 256], low: &mut [u64; 256])
 
 // And back.
 fn leave(high: &[u64; 256], low: &[u64; 256], a: &mut [u64; 512])
-    requires { ⌜ (length (now a) ≡ 512) × (length (now high) ≡ 256) × (length (now low) ≡ 256) ⌝ }
-    ensures { λ _. ⌜ Halved (now (a .exit)) (now (high .entry)) (now (low .entry)) ⌝ }
-    ensures { λ _. ⌜ (length (now (a .exit)) ≡ 512) × ((p : ℕ) → getD (now (a .exit)) p 0 < 2 ^ 64) ⌝ }
+    requires { (length a.old ≡ 512) × (length high.now ≡ 256) × (length low.now ≡ 256) }
+    ensures halved { Halved a.new high.now low.now }
+    ensures a_len { (length a.new ≡ 512) × ((p : ℕ) → get_or a.new p 0 < 2 ^ 64) }
 {
     join(high, low, a);
     rows::transpose(a);
@@ -251,10 +251,10 @@ pub(crate) fn rounds_to_rows(
     a: &mut [u64; 512],
     b: &mut [u64; 512],
 )
-    requires { ⌜ (n ≤ 8) × Sized (now a) (now b) ⌝ }
-    requires { ⌜ (length (now x0) ≡ 256) × (length (now x1) ≡ 256) × (length (now x2) ≡ 256) × (length (now x3) ≡ 256) ⌝ }
-    ensures { λ _. ⌜ ((m : ℕ) (f : ℕ → List ℕ) → m ≤ 64 * n → ((i : ℕ) → i < m → lanes (now (x0 .entry)) (now (x1 .entry)) (now (x2 .entry)) (now (x3 .entry)) (place i) ≡ f i) → Rows m (λ i. encryptWords rk (f i)) (now (a .exit)) (now (b .exit))) ⌝ }
-    ensures { λ _. ⌜ Sized (now (a .exit)) (now (b .exit)) ⌝ }
+    requires n_bound { (n ≤ 8) × Sized a.old b.old }
+    requires x0_len { (length x0.old ≡ 256) × (length x1.old ≡ 256) × (length x2.old ≡ 256) × (length x3.old ≡ 256) }
+    ensures by_index { (m : ℕ) (f : ℕ → List ℕ) → m ≤ 64 * n → ((i : ℕ) → i < m → lanes x0.old x1.old x2.old x3.old (place i) ≡ f i) → Rows m (λ i. encrypt_words rk (f i)) a.new b.new }
+    ensures sized { Sized a.new b.new }
 {
     let mut s = [0u64; 512];
     all_rounds(x0, x1, x2, x3, &mut s, rk, n);
@@ -264,10 +264,10 @@ pub(crate) fn rounds_to_rows(
 
 // Encrypts the blocks in the first n columns. Two columns are worked on at once: an odd n costs as much as the even one above it.
 fn encrypt(rk: [u32; 32], n: usize, a: &mut [u64; 512], b: &mut [u64; 512])
-    requires { ⌜ n ≤ 8 ⌝ }
-    requires { ⌜ Sized (now a) (now b) ⌝ }
-    ensures { λ _. ⌜ ((m : ℕ) (f : ℕ → List ℕ) → m ≤ 64 * n → Rows m f (now (a .entry)) (now (b .entry)) → Rows m (λ i. encryptWords rk (f i)) (now (a .exit)) (now (b .exit))) ⌝ }
-    ensures { λ _. ⌜ Sized (now (a .exit)) (now (b .exit)) ⌝ }
+    requires n_bound { n ≤ 8 }
+    requires sized { Sized a.old b.old }
+    ensures by_index { (m : ℕ) (f : ℕ → List ℕ) → m ≤ 64 * n → Rows m f a.old b.old → Rows m (λ i. encrypt_words rk (f i)) a.new b.new }
+    ensures sized_2 { Sized a.new b.new }
 {
     let mut x0 = [0u64; 256];
     let mut x1 = [0u64; 256];
@@ -286,8 +286,8 @@ pub const LEAST: usize = 3072;
 
 // How many of the blocks of `n` bytes the next batch takes.
 pub fn next_batch(n: usize) -> usize
-    requires { ⌜ 3072 ≤ n ⌝ }
-    ensures { λ r. ⌜ (1 ≤ r) × (r ≤ 512) × (16 * r ≤ n) ⌝ }
+    requires { 3072 ≤ n }
+    ensures { (1 ≤ result) × (result ≤ 512) × (16 * result ≤ n) }
 {
     let m = n / 16;
     if m < MOST { m } else { MOST }
@@ -299,8 +299,8 @@ const COLUMNS: [usize; 9] = [0, 2, 2, 4, 4, 6, 6, 8, 8];
 // In how many columns m blocks are worked on. It is looked up, by a length, and not reckoned: where the back end works out that a count is at most
 // 8, it does not vectorize the loops over it.
 pub(crate) fn columns_of(m: usize) -> usize
-    requires { ⌜ m ≤ 512 ⌝ }
-    ensures { λ r. ⌜ (m ≤ 64 * r) × (r ≤ 8) ⌝ }
+    requires { m ≤ 512 }
+    ensures { (m ≤ 64 * result) × (result ≤ 8) }
 {
     let counts = COLUMNS;
     counts[(m + 63) / 64]
@@ -308,9 +308,9 @@ pub(crate) fn columns_of(m: usize) -> usize
 
 // The first m blocks of `src`, each encrypted and xored with its block of `with`, to the front of `out`.
 pub fn encrypt_xored(rk: [u32; 32], m: usize, src: &[u8], with: &[u8], out: &mut [u8])
-    requires { ⌜ (m ≤ 512) × (16 * m ≤ length (now src)) ⌝ }
-    requires { ⌜ (16 * m ≤ length (now «with»)) × (16 * m ≤ length (now out)) ⌝ }
-    ensures { λ _. ⌜ now (out .exit) ≡ over (cat m (λ i. xors (blockAt (now («with» .entry)) i) (encryptBlock rk (blockAt (now (src .entry)) i)))) (now (out .entry)) ⌝ }
+    requires m_bound { (m ≤ 512) × (16 * m ≤ length src.now) }
+    requires m_in_bounds { (16 * m ≤ length «with».now) × (16 * m ≤ length out.old) }
+    ensures { out.new ≡ over (cat m (λ i. xors (block_at «with».now i) (encrypt_block rk (block_at src.now i)))) out.old }
 {
     let mut a = [0u64; 512];
     let mut b = [0u64; 512];

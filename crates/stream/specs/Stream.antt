@@ -1,30 +1,28 @@
 -- The five modes that xor a message with the cipher of a state: Cfb (its segments are whole blocks), Ofb and Ctr of
 -- SP 800-38A, and GCTR of SP 800-38D. A short rest is xored with the front of the cipher's output; SP 800-38A leaves Cfb
 -- open there, and libsm does it so.
-use Prim.Native.Nat.{ℕ}
-use mathlib.Core.Bool.{Bool, true, false}
-use mathlib.Core.List.{List}
-use Rattle·block.specs.Xor.{xors}
-use Rattle·cipher.specs.Sm4.{encryptBlock}
-use Rattle·counter.specs.Counter.{ctrNext, gcmNext}
-use Rattle·walk.specs.Walk.{Mode}
-use Rattle·stream·specs.specs.declared.Kind.{Kind}
-use Rattle·stream·specs.specs.declared.Kind.the-variants.{CfbEncrypt, CfbDecrypt, Ofb, Ctr, Gctr}
+use Rattle.std.specs.Prelude.{ℕ, Bool, true, false, List}
+use Rattle.block.specs.Xor.{xors}
+use Rattle.cipher.specs.Sm4.{encrypt_block}
+use Rattle.counter.specs.Counter.{ctr_next, gcm_next}
+use Rattle.walk.specs.Walk.{Mode}
+use Rattle.stream.specs.declared.Kind.{Kind}
+use Rattle.stream.specs.declared.Kind.TheVariants.{CfbEncrypt, CfbDecrypt, Ofb, Ctr, Gctr}
 
 -- the next state, where s is the state, e the cipher of s, b a block of the message and c what it becomes:
 -- Cfb: the ciphertext block; Ofb: the cipher's output; Ctr and Gctr: the next counter, each by its own step
-abbrev pub stateAfter : Kind → List ℕ → List ℕ → List ℕ → List ℕ → List ℕ
-stateAfter CfbEncrypt s e b c = c
-stateAfter CfbDecrypt s e b c = b
-stateAfter Ofb s e b c = e
-stateAfter Ctr s e b c = ctrNext s
-stateAfter Gctr s e b c = gcmNext s
+abbrev pub state_after : Kind → List ℕ → List ℕ → List ℕ → List ℕ → List ℕ
+state_after CfbEncrypt s e b c = c
+state_after CfbDecrypt s e b c = b
+state_after Ofb s e b c = e
+state_after Ctr s e b c = ctr_next s
+state_after Gctr s e b c = gcm_next s
 
-abbrev pub streamMode : Kind → List ℕ → Mode
-streamMode k rk = record {
-  block = λ s b. xors b (encryptBlock rk s);
-  next = λ s b. stateAfter k s (encryptBlock rk s) b (xors b (encryptBlock rk s));
-  rest = λ s d. xors d (encryptBlock rk s);
+abbrev pub stream_mode : Kind → List ℕ → Mode
+stream_mode k rk = record {
+  block = λ s b. xors b (encrypt_block rk s);
+  next = λ s b. state_after k s (encrypt_block rk s) b (xors b (encrypt_block rk s));
+  rest = λ s d. xors d (encrypt_block rk s);
 }
 
 -- the kind that takes back what a kind did

@@ -1,18 +1,17 @@
 // Batches: many blocks of a message side by side, where the gates are lent and no block waits for the one before it.
-ghost use mathlib.Core.Path.{_≡_};
-ghost use Prim.Native.Nat.{_≤_};
-ghost use lib.ListN.{length};
-ghost use Rattle·block.specs.Words.{unwords};
-ghost use Rattle·cipher.specs.Engine.{Engine};
-ghost use Rattle·counter.specs.Counter.{jumped};
-ghost use Rattle·walk.specs.Reached.{Reached};
-ghost use Rattle·stream·specs.specs.Stream.{streamMode, counting};
-use crate::Kind;
+ghost use Rattle.std.specs.Prelude.{◌≡◌, ◌≤◌, length};
+ghost use Rattle.block.specs.Words.{unwords};
+ghost use Rattle.cipher.specs.Engine.{Engine};
+ghost use Rattle.counter.specs.Counter.{jumped};
+ghost use Rattle.walk.specs.Reached.{Reached};
+ghost use Rattle.stream.specs.Stream.{stream_mode, counting};
+
 use crate::few::block_at;
-use crate::step;
+use crate::{Kind, step};
 use sliced::LEAST;
 
 // How far a walk has come: the state, and how many bytes are done.
+#[derive(Drop)]
 pub(crate) struct Place {
     pub state: [u32; 4],
     pub at: usize,
@@ -20,8 +19,8 @@ pub(crate) struct Place {
 
 // The counter `m` blocks on.
 pub(crate) fn counter_after(wide: bool, s: [u32; 4], m: usize) -> [u32; 4]
-    requires { ⌜ m ≤ 512 ⌝ }
-    ensures { λ r. ⌜ unwords r ≡ jumped wide (unwords s) m ⌝ }
+    requires { m ≤ 512 }
+    ensures { unwords result ≡ jumped wide (unwords s) m }
 {
     if wide {
         return counter::jump(s, m as u64);
@@ -31,8 +30,8 @@ pub(crate) fn counter_after(wide: bool, s: [u32; 4], m: usize) -> [u32; 4]
 
 // As many batches of a message as there are, in a mode whose states are counters: Ctr's are wide, Gctr's are not.
 fn counters(rk: [u32; 32], wide: bool, iv: [u32; 4], data: &[u8], out: &mut [u8]) -> Place
-    requires { ⌜ length (now «data») ≤ length (now out) ⌝ }
-    ensures { λ r. ⌜ Reached (streamMode (counting wide) rk) (unwords iv) (now («data» .entry)) (now (out .entry)) (unwords (r .state)) (now (out .exit)) (r .at) ⌝ }
+    requires { length «data».now ≤ length out.old }
+    ensures { Reached (stream_mode (counting wide) rk) (unwords iv) «data».now out.old (unwords result.state) out.new result.at }
 {
     let mut s = iv;
     let mut at: usize = 0;
@@ -49,9 +48,9 @@ fn counters(rk: [u32; 32], wide: bool, iv: [u32; 4], data: &[u8], out: &mut [u8]
 // The same in Cfb decryption, where the state of a block is the block before it. That of the first is no block of the message, so the
 // first goes by itself.
 fn feedback(t: &[u32], rk: [u32; 32], iv: [u32; 4], data: &[u8], out: &mut [u8]) -> Place
-    requires { ⌜ Engine (now t) ⌝ }
-    requires { ⌜ length (now «data») ≤ length (now out) ⌝ }
-    ensures { λ r. ⌜ Reached (streamMode Kind.CfbDecrypt rk) (unwords iv) (now («data» .entry)) (now (out .entry)) (unwords (r .state)) (now (out .exit)) (r .at) ⌝ }
+    requires engine { Engine t.now }
+    requires data_in_bounds { length «data».now ≤ length out.old }
+    ensures { Reached (stream_mode Kind.CfbDecrypt rk) (unwords iv) «data».now out.old (unwords result.state) out.new result.at }
 {
     if data.len() < LEAST {
         return Place { state: iv, at: 0 };
@@ -79,9 +78,9 @@ pub(crate) fn run(
     data: &[u8],
     out: &mut [u8],
 ) -> Place
-    requires { ⌜ Engine (now t) ⌝ }
-    requires { ⌜ length (now «data») ≤ length (now out) ⌝ }
-    ensures { λ r. ⌜ Reached (streamMode kind rk) (unwords iv) (now («data» .entry)) (now (out .entry)) (unwords (r .state)) (now (out .exit)) (r .at) ⌝ }
+    requires engine { Engine t.now }
+    requires data_in_bounds { length «data».now ≤ length out.old }
+    ensures { Reached (stream_mode kind rk) (unwords iv) «data».now out.old (unwords result.state) out.new result.at }
 {
     let start = Place { state: iv, at: 0 };
     if !cipher::by_gates(t) {

@@ -1,27 +1,21 @@
 // Up to 64 blocks of a message side by side, and with them the cipher of the state behind, where the gates are lent and the states are known
 // ahead: for what is too short for a batch.
-ghost use mathlib.Core.Path.{_≡_};
-ghost use mathlib.Core.Logic.{_⊎_};
-ghost use mathlib.Core.Bool.{true};
-ghost use mathlib.Core.List.{List};
-ghost use Prim.Native.Nat.{ℕ, _+_, _*_, _<_, _≤_};
-ghost use lib.ListN.{length, take, drop};
-ghost use Rattle·block.specs.Blocks.{blockAt, cat};
-ghost use Rattle·block.specs.Words.{unwords};
-ghost use Rattle·cipher.specs.Sm4.{encryptBlock};
-ghost use Rattle·counter.specs.Counter.{jumped};
-ghost use Rattle·block.specs.Over.{over};
-ghost use Rattle·walk.specs.Walk.{chain, stepped, endState};
-ghost use Rattle·stream·specs.specs.Stream.{streamMode, ahead};
-use crate::End;
-use crate::Kind;
+ghost use Rattle.std.specs.Prelude.{◌≡◌, ◌⊎◌, true, List, ℕ, ◌+◌, ◌*◌, ◌<◌, ◌≤◌, length, take, drop};
+ghost use Rattle.block.specs.Blocks.{block_at, cat};
+ghost use Rattle.block.specs.Words.{unwords};
+ghost use Rattle.cipher.specs.Sm4.{encrypt_block};
+ghost use Rattle.counter.specs.Counter.{jumped};
+ghost use Rattle.block.specs.Over.{over};
+ghost use Rattle.walk.specs.Walk.{chain, stepped, end_state};
+ghost use Rattle.stream.specs.Stream.{stream_mode, ahead};
+
 use crate::batches::counter_after;
-use crate::pad_needed;
+use crate::{End, Kind, pad_needed};
 
 // n counters from c on, to the front of `out`.
 pub fn lay_counters(wide: bool, c: [u32; 4], n: usize, out: &mut [u8])
-    requires { ⌜ (n ≤ 65) × (16 * n ≤ length (now out)) ⌝ }
-    ensures { λ _. ⌜ now (out .exit) ≡ over (cat n (jumped wide (unwords c))) (now (out .entry)) ⌝ }
+    requires { (n ≤ 65) × (16 * n ≤ length out.old) }
+    ensures { out.new ≡ over (cat n (jumped wide (unwords c))) out.old }
 {
     let mut i: usize = 0;
     while i < n {
@@ -32,9 +26,9 @@ pub fn lay_counters(wide: bool, c: [u32; 4], n: usize, out: &mut [u8])
 
 // The states of n blocks, to the front of `out`.
 fn lay(kind: Kind, iv: [u32; 4], data: &[u8], n: usize, out: &mut [u8])
-    requires { ⌜ ahead kind ≡ true ⌝ }
-    requires { ⌜ (n ≤ 65) × (16 * n ≤ length (now «data») + 16) × (16 * n ≤ length (now out)) ⌝ }
-    ensures { λ _. ⌜ ((rk : List ℕ) (i : ℕ) → i < n → blockAt (now (out .exit)) i ≡ stepped (streamMode kind rk) i (unwords iv) (now («data» .entry))) ⌝ }
+    requires kind_value { ahead kind ≡ true }
+    requires n_bound { (n ≤ 65) × (16 * n ≤ length «data».now + 16) × (16 * n ≤ length out.old) }
+    ensures { (rk : List ℕ) (i : ℕ) → i < n → block_at out.new i ≡ stepped (stream_mode kind rk) i (unwords iv) «data».now }
 {
     match kind {
         Kind::CfbEncrypt => {}
@@ -47,16 +41,16 @@ fn lay(kind: Kind, iv: [u32; 4], data: &[u8], n: usize, out: &mut [u8])
 
 // The block at a place.
 pub(crate) fn block_at(s: &[u8], at: usize) -> [u32; 4]
-    requires { ⌜ at + 16 ≤ length (now s) ⌝ }
-    ensures { λ r. ⌜ unwords r ≡ take 16 (drop at (now (s .entry))) ⌝ }
+    requires { at + 16 ≤ length s.now }
+    ensures { unwords result ≡ take 16 (drop at s.now) }
 {
     block::split_block(&s[at..])
 }
 
 // How many states are ciphered for m blocks: one more where the pad behind them is needed.
 fn ciphered(m: usize, pad: bool) -> usize
-    requires { ⌜ (m ≤ 64) × (pad ≡ true → m ≤ 63) ⌝ }
-    ensures { λ r. ⌜ ((r ≡ m) ⊎ (r ≡ m + 1)) × (pad ≡ true → r ≡ m + 1) × (r ≤ 64) ⌝ }
+    requires { (m ≤ 64) × (pad ≡ true → m ≤ 63) }
+    ensures { ((result ≡ m) ⊎ (result ≡ m + 1)) × (pad ≡ true → result ≡ m + 1) × (result ≤ 64) }
 {
     if pad {
         return m + 1;
@@ -74,12 +68,12 @@ fn few(
     data: &[u8],
     out: &mut [u8],
 ) -> End
-    requires { ⌜ ahead kind ≡ true ⌝ }
-    requires { ⌜ (m ≤ 64) × (pad ≡ true → m ≤ 63) ⌝ }
-    requires { ⌜ (16 * m ≤ length (now «data»)) × (16 * m ≤ length (now out)) ⌝ }
-    ensures { λ r. ⌜ unwords (r .state) ≡ stepped (streamMode kind rk) m (unwords iv) (now («data» .entry)) ⌝ }
-    ensures { λ r. ⌜ (pad ≡ true → r .pad ≡ encryptBlock rk (stepped (streamMode kind rk) m (unwords iv) (now («data» .entry)))) ⌝ }
-    ensures { λ _. ⌜ now (out .exit) ≡ over (cat m (λ i. streamMode kind rk .block (stepped (streamMode kind rk) i (unwords iv) (now («data» .entry))) (blockAt (now («data» .entry)) i))) (now (out .entry)) ⌝ }
+    requires kind_value { ahead kind ≡ true }
+    requires m_bound { (m ≤ 64) × (pad ≡ true → m ≤ 63) }
+    requires m_in_bounds { (16 * m ≤ length «data».now) × (16 * m ≤ length out.old) }
+    ensures state_value { unwords result.state ≡ stepped (stream_mode kind rk) m (unwords iv) «data».now }
+    ensures pad_value { pad ≡ true → result.pad ≡ encrypt_block rk (stepped (stream_mode kind rk) m (unwords iv) «data».now) }
+    ensures out_after { out.new ≡ over (cat m (λ i. (stream_mode kind rk).block (stepped (stream_mode kind rk) i (unwords iv) «data».now) (block_at «data».now i))) out.old }
 {
     let mut states = [0u8; 1040];
     lay(kind, iv, data, m + 1, &mut states);
@@ -95,11 +89,11 @@ fn few(
 
 // A message of fewer than 64 blocks.
 fn last(rk: [u32; 32], kind: Kind, iv: [u32; 4], on: bool, data: &[u8], out: &mut [u8]) -> End
-    requires { ⌜ ahead kind ≡ true ⌝ }
-    requires { ⌜ (length (now «data») < 1024) × (length (now «data») ≤ length (now out)) ⌝ }
-    ensures { λ r. ⌜ unwords (r .state) ≡ endState (streamMode kind rk) (unwords iv) (now («data» .entry)) ⌝ }
-    ensures { λ r. ⌜ (on ≡ true → r .pad ≡ encryptBlock rk (endState (streamMode kind rk) (unwords iv) (now («data» .entry)))) ⌝ }
-    ensures { λ _. ⌜ now (out .exit) ≡ over (chain (streamMode kind rk) (unwords iv) (now («data» .entry))) (now (out .entry)) ⌝ }
+    requires kind_value { ahead kind ≡ true }
+    requires data_len_bound { (length «data».now < 1024) × (length «data».now ≤ length out.old) }
+    ensures state_value { unwords result.state ≡ end_state (stream_mode kind rk) (unwords iv) «data».now }
+    ensures pad_value { on ≡ true → result.pad ≡ encrypt_block rk (end_state (stream_mode kind rk) (unwords iv) «data».now) }
+    ensures out_after { out.new ≡ over (chain (stream_mode kind rk) (unwords iv) «data».now) out.old }
 {
     let m = data.len() / 16;
     let end = few(rk, kind, iv, m, pad_needed(on, data.len() % 16), data, out);
@@ -118,11 +112,11 @@ pub(crate) fn run(
     data: &[u8],
     out: &mut [u8],
 ) -> End
-    requires { ⌜ ahead kind ≡ true ⌝ }
-    requires { ⌜ length (now «data») ≤ length (now out) ⌝ }
-    ensures { λ r. ⌜ unwords (r .state) ≡ endState (streamMode kind rk) (unwords iv) (now («data» .entry)) ⌝ }
-    ensures { λ r. ⌜ (on ≡ true → r .pad ≡ encryptBlock rk (endState (streamMode kind rk) (unwords iv) (now («data» .entry)))) ⌝ }
-    ensures { λ _. ⌜ now (out .exit) ≡ over (chain (streamMode kind rk) (unwords iv) (now («data» .entry))) (now (out .entry)) ⌝ }
+    requires kind_value { ahead kind ≡ true }
+    requires data_in_bounds { length «data».now ≤ length out.old }
+    ensures state_value { unwords result.state ≡ end_state (stream_mode kind rk) (unwords iv) «data».now }
+    ensures pad_value { on ≡ true → result.pad ≡ encrypt_block rk (end_state (stream_mode kind rk) (unwords iv) «data».now) }
+    ensures out_after { out.new ≡ over (chain (stream_mode kind rk) (unwords iv) «data».now) out.old }
 {
     let mut s = iv;
     let mut at: usize = 0;

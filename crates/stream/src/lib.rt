@@ -1,22 +1,22 @@
 // The modes of libsm's `cipher_mode.rs` that xor a message with the cipher of a state: `cfb_encrypt`, `cfb_decrypt`,
 // `ofb_encrypt`, `ctr_encrypt`, and `galois_ctr` of Gcm. They differ in the next state alone, so one loop serves all.
+
+#![tactic(auto)]
+
 mod batches;
 pub mod few;
 
-ghost use mathlib.Core.Path.{_≡_};
-ghost use mathlib.Core.Bool.{true, false};
-ghost use mathlib.Core.List.{_++_};
-ghost use Prim.Native.Nat.{_<_, _≤_};
-ghost use lib.ListN.{length, take, drop};
-ghost use Rattle·block.specs.Words.{unwords};
-ghost use Rattle·block.specs.Xor.{xors};
-ghost use Rattle·cipher.specs.Engine.{Engine};
-ghost use Rattle·cipher.specs.Sm4.{encryptBlock};
-ghost use Rattle·block.specs.Over.{over};
-ghost use Rattle·walk.specs.Walk.{chain, endState};
-ghost use Rattle·stream·specs.specs.Stream.{stateAfter, streamMode, ahead};
+ghost use Rattle.std.specs.Prelude.{◌≡◌, true, false, ◌++◌, ◌<◌, ◌≤◌, length, take, drop};
+ghost use Rattle.block.specs.Words.{unwords};
+ghost use Rattle.block.specs.Xor.{xors};
+ghost use Rattle.cipher.specs.Engine.{Engine};
+ghost use Rattle.cipher.specs.Sm4.{encrypt_block};
+ghost use Rattle.block.specs.Over.{over};
+ghost use Rattle.walk.specs.Walk.{chain, end_state};
+ghost use Rattle.stream.specs.Stream.{state_after, stream_mode, ahead};
 
 // The mode and, where they differ, the direction.
+#[derive(Clone, Copy)]
 pub enum Kind {
     CfbEncrypt,
     CfbDecrypt,
@@ -27,7 +27,7 @@ pub enum Kind {
 
 // The state after the block `b`: `s` is the state before it, `e` the cipher of `s`, and `c` what the block became.
 fn state_after(kind: Kind, s: [u32; 4], e: [u32; 4], b: [u32; 4], c: [u32; 4]) -> [u32; 4]
-    ensures { λ r. ⌜ unwords r ≡ stateAfter kind (unwords s) (unwords e) (unwords b) (unwords c) ⌝ }
+    ensures { unwords result ≡ state_after kind (unwords s) (unwords e) (unwords b) (unwords c) }
 {
     match kind {
         Kind::CfbEncrypt => c,
@@ -47,11 +47,11 @@ pub(crate) fn step(
     data: &[u8],
     out: &mut [u8],
 ) -> [u32; 4]
-    requires { ⌜ Engine (now t) ⌝ }
-    requires { ⌜ 16 ≤ length (now «data») ⌝ }
-    requires { ⌜ 16 ≤ length (now out) ⌝ }
-    ensures { λ r. ⌜ unwords r ≡ streamMode kind rk .next (unwords s) (take 16 (now («data» .entry))) ⌝ }
-    ensures { λ _. ⌜ now (out .exit) ≡ streamMode kind rk .block (unwords s) (take 16 (now («data» .entry))) ++ drop 16 (now (out .entry)) ⌝ }
+    requires engine { Engine t.now }
+    requires in_bounds { 16 ≤ length «data».now }
+    requires in_bounds_2 { 16 ≤ length out.old }
+    ensures result_value { unwords result ≡ (stream_mode kind rk).next (unwords s) (take 16 «data».now) }
+    ensures out_after { out.new ≡ (stream_mode kind rk).block (unwords s) (take 16 «data».now) ++ drop 16 out.old }
 {
     let e = cipher::encrypt(t, rk, s);
     let b = block::split_block(data);
@@ -62,7 +62,7 @@ pub(crate) fn step(
 
 // Whether the cipher of the state behind the full blocks is needed: where bytes are left behind these, or the message goes on.
 pub(crate) fn pad_needed(on: bool, rest: usize) -> bool
-    ensures { λ r. ⌜ (on ≡ true → r ≡ true) × (r ≡ false → rest ≡ 0) ⌝ }
+    ensures { (on ≡ true → result ≡ true) × (result ≡ false → rest ≡ 0) }
 {
     if on {
         return true;
@@ -82,11 +82,11 @@ fn xor_rest(
     data: &[u8],
     out: &mut [u8],
 ) -> [u8; 16]
-    requires { ⌜ Engine (now t) ⌝ }
-    requires { ⌜ length (now «data») < 16 ⌝ }
-    requires { ⌜ length (now «data») ≤ length (now out) ⌝ }
-    ensures { λ r. ⌜ (on ≡ true → r ≡ encryptBlock rk (unwords s)) ⌝ }
-    ensures { λ _. ⌜ now (out .exit) ≡ over (xors (now («data» .entry)) (encryptBlock rk (unwords s))) (now (out .entry)) ⌝ }
+    requires engine { Engine t.now }
+    requires data_len_bound { length «data».now < 16 }
+    requires data_in_bounds { length «data».now ≤ length out.old }
+    ensures value { on ≡ true → result ≡ encrypt_block rk (unwords s) }
+    ensures out_after { out.new ≡ over (xors «data».now (encrypt_block rk (unwords s))) out.old }
 {
     if !pad_needed(on, data.len()) {
         return [0u8; 16];
@@ -98,6 +98,7 @@ fn xor_rest(
 
 // Where a walk ends: the state after the full blocks, and, where the message goes on, the cipher of it, with which a rest was xored. A
 // message that goes on takes both from here, so that no block is ciphered twice.
+#[derive(Drop)]
 pub struct End {
     pub state: [u32; 4],
     pub pad: [u8; 16],
@@ -113,11 +114,11 @@ fn one_by_one(
     data: &[u8],
     out: &mut [u8],
 ) -> End
-    requires { ⌜ Engine (now t) ⌝ }
-    requires { ⌜ length (now «data») ≤ length (now out) ⌝ }
-    ensures { λ r. ⌜ unwords (r .state) ≡ endState (streamMode kind rk) (unwords iv) (now («data» .entry)) ⌝ }
-    ensures { λ r. ⌜ (on ≡ true → r .pad ≡ encryptBlock rk (endState (streamMode kind rk) (unwords iv) (now («data» .entry)))) ⌝ }
-    ensures { λ _. ⌜ now (out .exit) ≡ over (chain (streamMode kind rk) (unwords iv) (now («data» .entry))) (now (out .entry)) ⌝ }
+    requires engine { Engine t.now }
+    requires data_in_bounds { length «data».now ≤ length out.old }
+    ensures state_value { unwords result.state ≡ end_state (stream_mode kind rk) (unwords iv) «data».now }
+    ensures pad_value { on ≡ true → result.pad ≡ encrypt_block rk (end_state (stream_mode kind rk) (unwords iv) «data».now) }
+    ensures out_after { out.new ≡ over (chain (stream_mode kind rk) (unwords iv) «data».now) out.old }
 {
     let mut s = iv;
     let mut at: usize = 0;
@@ -132,7 +133,7 @@ fn one_by_one(
 
 // Whether a message of `n` bytes goes side by side: where the gates are lent, if it has a full block, and its states are known ahead.
 fn side_by_side(t: &[u32], kind: Kind, n: usize) -> bool
-    ensures { λ r. ⌜ (r ≡ true → ahead kind ≡ true) ⌝ }
+    ensures { result ≡ true → ahead kind ≡ true }
 {
     if !cipher::by_gates(t) {
         return false;
@@ -159,11 +160,11 @@ fn finish(
     data: &[u8],
     out: &mut [u8],
 ) -> End
-    requires { ⌜ Engine (now t) ⌝ }
-    requires { ⌜ length (now «data») ≤ length (now out) ⌝ }
-    ensures { λ r. ⌜ unwords (r .state) ≡ endState (streamMode kind rk) (unwords iv) (now («data» .entry)) ⌝ }
-    ensures { λ r. ⌜ (on ≡ true → r .pad ≡ encryptBlock rk (endState (streamMode kind rk) (unwords iv) (now («data» .entry)))) ⌝ }
-    ensures { λ _. ⌜ now (out .exit) ≡ over (chain (streamMode kind rk) (unwords iv) (now («data» .entry))) (now (out .entry)) ⌝ }
+    requires engine { Engine t.now }
+    requires data_in_bounds { length «data».now ≤ length out.old }
+    ensures state_value { unwords result.state ≡ end_state (stream_mode kind rk) (unwords iv) «data».now }
+    ensures pad_value { on ≡ true → result.pad ≡ encrypt_block rk (end_state (stream_mode kind rk) (unwords iv) «data».now) }
+    ensures out_after { out.new ≡ over (chain (stream_mode kind rk) (unwords iv) «data».now) out.old }
 {
     if side_by_side(t, kind, data.len()) {
         return few::run(rk, kind, iv, on, data, out);
@@ -181,11 +182,11 @@ pub fn stream(
     data: &[u8],
     out: &mut [u8],
 ) -> End
-    requires { ⌜ Engine (now t) ⌝ }
-    requires { ⌜ length (now «data») ≤ length (now out) ⌝ }
-    ensures { λ r. ⌜ unwords (r .state) ≡ endState (streamMode kind rk) (unwords iv) (now («data» .entry)) ⌝ }
-    ensures { λ r. ⌜ (on ≡ true → r .pad ≡ encryptBlock rk (endState (streamMode kind rk) (unwords iv) (now («data» .entry)))) ⌝ }
-    ensures { λ _. ⌜ now (out .exit) ≡ over (chain (streamMode kind rk) (unwords iv) (now («data» .entry))) (now (out .entry)) ⌝ }
+    requires engine { Engine t.now }
+    requires data_in_bounds { length «data».now ≤ length out.old }
+    ensures state_value { unwords result.state ≡ end_state (stream_mode kind rk) (unwords iv) «data».now }
+    ensures pad_value { on ≡ true → result.pad ≡ encrypt_block rk (end_state (stream_mode kind rk) (unwords iv) «data».now) }
+    ensures out_after { out.new ≡ over (chain (stream_mode kind rk) (unwords iv) «data».now) out.old }
 {
     let begun = batches::run(t, rk, kind, iv, data, out);
     let at = begun.at;

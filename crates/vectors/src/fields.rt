@@ -1,6 +1,5 @@
 // The file of vectors: hex digits that spell fields, each a byte that says how long it is and then its bytes.
-ghost use Prim.Native.Nat.{_<_, _≤_};
-ghost use lib.ListN.{length};
+ghost use Rattle.std.specs.Prelude.{◌<◌, ◌≤◌, length};
 
 // Whether a comment goes on past the byte `b`.
 fn in_comment(before: bool, b: u8) -> bool {
@@ -33,7 +32,7 @@ fn joined(byte: u8, digit: u8) -> u8 {
 
 // 1 of a digit, else 0.
 fn counts(digit: u8) -> usize
-    ensures { λ r. ⌜ r ≤ 1 ⌝ }
+    ensures { result ≤ 1 }
 {
     if digit < 16 { 1 } else { 0 }
 }
@@ -41,7 +40,7 @@ fn counts(digit: u8) -> usize
 // Puts the bytes that a file spells to its own front, and says how many they are. Comments, blanks
 // and line ends spell nothing.
 pub fn spelled(s: &mut [u8]) -> usize
-    ensures { λ r. ⌜ r ≤ length (now (s .exit)) ⌝ }
+    ensures { result ≤ length s.new }
 {
     let mut comment = false;
     let mut byte: u8 = 0;
@@ -58,14 +57,14 @@ pub fn spelled(s: &mut [u8]) -> usize
 }
 
 fn wide(x: u8) -> usize
-    ensures { λ r. ⌜ r < 256 ⌝ }
+    ensures { result < 256 }
 {
     x as usize
 }
 
 // Where the field that starts at a place ends, which is where the bytes do if that is sooner.
 fn end(s: &[u8], at: usize) -> usize
-    ensures { λ r. ⌜ r ≤ length (now (s .entry)) ⌝ }
+    ensures { result ≤ length s.now }
 {
     if s.len() <= at {
         return s.len();

@@ -2,7 +2,7 @@
 // crates and is written another way: S-box, L and L' are products of polynomials over bits, a round
 // key is made where its round is, and every chain is one walk. It is here to be compared with, so it
 // is plain, and nothing is proved of it but that it is safe.
-ghost use Prim.Native.Nat.{_<_, _^_};
+ghost use Rattle.std.specs.Prelude.{◌^◌, ◌<◌};
 
 // x^8 + x^7 + x^6 + x^5 + x^4 + x^2 + 1: the field of the S-box.
 const FIELD: u64 = 0x1f5;
@@ -13,6 +13,7 @@ const BYTE_CIRCLE: u64 = 0x101;
 const WORD_CIRCLE: u64 = 0x1_0000_0001;
 
 // A block, or an element of the hash's field: sixteen bytes in four words.
+#[derive(Clone, Copy)]
 pub struct Words {
     pub a: u32,
     pub b: u32,
@@ -77,21 +78,21 @@ pub fn tables() -> [u32; 512] {
 
 // A word turned to the left.
 fn turned(x: u32, by: u32) -> u32
-    requires { ⌜ by < 32 ⌝ }
+    requires { by < 32 }
 {
     x << by | x >> (32 - by) % 32
 }
 
 // The last byte of a word by the table of L (0) or of L' (256).
 fn entry(t: &[u32; 512], prime: usize, x: u32) -> u32
-    requires { ⌜ prime < 257 ⌝ }
+    requires { prime < 257 }
 {
     t[prime + (x % 256) as usize]
 }
 
 // T or T' of a word: its bytes one by one, each turned back to its place.
 fn mixed(t: &[u32; 512], prime: usize, x: u32) -> u32
-    requires { ⌜ prime < 257 ⌝ }
+    requires { prime < 257 }
 {
     entry(t, prime, x)
         ^ turned(entry(t, prime, x >> 8), 8)
@@ -101,7 +102,7 @@ fn mixed(t: &[u32; 512], prime: usize, x: u32) -> u32
 
 // One round, of a block or of a key.
 fn round(t: &[u32; 512], prime: usize, x: Words, own: u32) -> Words
-    requires { ⌜ prime < 257 ⌝ }
+    requires { prime < 257 }
 {
     let d = x.a ^ mixed(t, prime, x.b ^ x.c ^ x.d ^ own);
     Words {
@@ -114,7 +115,7 @@ fn round(t: &[u32; 512], prime: usize, x: Words, own: u32) -> Words
 
 // Round constant i: the multiples of 7, from the one of 4 i on.
 fn constant(i: u32) -> u32
-    requires { ⌜ i < 32 ⌝ }
+    requires { i < 32 }
 {
     let first = i * 28;
     first % 256 << 24 | (first + 7) % 256 << 16 | (first + 14) % 256 << 8 | (first + 21) % 256
@@ -161,7 +162,7 @@ fn byte(s: &[u8], i: usize) -> u8 {
 
 // Word i of a text.
 fn word(s: &[u8], i: usize) -> u32
-    requires { ⌜ i < 2 ^ 62 ⌝ }
+    requires { i < 2 ^ 62 }
 {
     let at = 4 * i;
     (byte(s, at) as u32) << 24
@@ -172,7 +173,7 @@ fn word(s: &[u8], i: usize) -> u32
 
 // Block i of a text.
 fn block(s: &[u8], i: usize) -> Words
-    requires { ⌜ i < 2 ^ 60 ⌝ }
+    requires { i < 2 ^ 60 }
 {
     Words {
         a: word(s, 4 * i),
@@ -248,13 +249,13 @@ fn next(kind: u32, state: Words, taken: Words, put: Words) -> Words {
 }
 
 // 0 exactly where a text of whole blocks becomes the front of `result`.
-fn walked(t: &[u32; 512], kind: u32, key: Words, first: Words, text: &[u8], result: &[u8]) -> u32 {
+fn walked(t: &[u32; 512], kind: u32, key: Words, first: Words, text: &[u8], res: &[u8]) -> u32 {
     let mut differ = (text.len() % 16) as u32;
     let mut state = first;
     for i in 0..text.len() / 16 {
         let taken = block(text, i);
         let put = given(t, kind, key, state, taken);
-        differ = differ | apart(put, block(result, i));
+        differ = differ | apart(put, block(res, i));
         let after = next(kind, state, taken, put);
         state = after;
     }
@@ -336,7 +337,7 @@ fn tagged(t: &[u32; 512], key: Words, j0: Words, label: &[u8], sealed: &[u8], n:
 }
 
 // Gcm with a nonce of twelve bytes: the counter of the tag is 1, and that of the text's first block 2.
-fn gcm(t: &[u32; 512], key: Words, nonce: &[u8], label: &[u8], text: &[u8], result: &[u8]) -> u32 {
+fn gcm(t: &[u32; 512], key: Words, nonce: &[u8], label: &[u8], text: &[u8], res: &[u8]) -> u32 {
     let iv = block(nonce, 0);
     let j0 = Words {
         a: iv.a,
@@ -345,7 +346,7 @@ fn gcm(t: &[u32; 512], key: Words, nonce: &[u8], label: &[u8], text: &[u8], resu
         d: 1,
     };
     let first = counted(j0, 1);
-    walked(t, 4, key, first, text, result) | tagged(t, key, j0, label, result, text.len())
+    walked(t, 4, key, first, text, res) | tagged(t, key, j0, label, res, text.len())
 }
 
 // Whether the published result of a vector is what this gives.
@@ -356,13 +357,13 @@ pub fn gives(
     iv: &[u8],
     label: &[u8],
     text: &[u8],
-    result: &[u8],
+    res: &[u8],
 ) -> bool {
     let k = block(key, 0);
     let differ = match kind {
-        4 => gcm(t, k, iv, label, text, result),
-        7 => apart(hashed(k, label, text, text.len()), block(result, 0)),
-        _ => walked(t, kind, k, block(iv, 0), text, result),
+        4 => gcm(t, k, iv, label, text, res),
+        7 => apart(hashed(k, label, text, text.len()), block(res, 0)),
+        _ => walked(t, kind, k, block(iv, 0), text, res),
     };
     differ == 0
 }

@@ -1,11 +1,15 @@
 // Runs the published vectors of the file that its argument names. A vector is the same where ours, both
 // ways where there are two, and an independent SM4 give the published result.
+
+#![tactic(auto)]
+
 mod fields;
 mod independent;
 mod ours;
 
-ghost use Prim.Native.Nat.{_<_};
-use libc::STDOUT_FILENO;
+ghost use Rattle.std.specs.Prelude.{◌<◌, IfOk};
+
+use std::{env, fs, io};
 
 // The kind of a vector.
 fn kind_of(field: &[u8]) -> u32 {
@@ -31,66 +35,56 @@ fn agree(t: &[u32; 512], bytes: &[u8], at: usize) -> bool {
         && independent::gives(t, kind, key, iv, label, text, result)
 }
 
-// Writes some words.
-fn said(words: &[u8]) {
-    io::write_all(STDOUT_FILENO, words);
-}
-
 // Writes how one vector went, and counts it where it differs.
-fn told(number: u64, same: bool) -> u64
-    ensures { λ r. ⌜ r < 2 ⌝ }
+fn told(rt: &HostRuntime, number: u64, same: bool) -> io::Result<u64>
+    ensures { IfOk result (λ n. n < 2) }
 {
-    said(b"vector ");
-    io::print_decimal(STDOUT_FILENO, number);
     if same {
-        said(b" same\n");
-        return 0;
+        println!(rt; "vector {number} same")?;
+        return Ok(0);
     }
-    said(b" differ\n");
-    1
+    println!(rt; "vector {number} differ")?;
+    Ok(1)
 }
 
 // Writes how all of them went.
-fn summary(all: u64, differ: u64) {
-    io::print_decimal(STDOUT_FILENO, all);
-    said(b" compared ");
-    io::print_decimal(STDOUT_FILENO, differ);
-    said(b" differ\n");
+fn summary(rt: &HostRuntime, all: u64, differ: u64) -> io::Result<()> {
+    println!(rt; "{all} compared {differ} differ")
 }
 
 // Runs every vector of the file.
-fn run_all(bytes: &[u8]) {
+fn run_all(rt: &HostRuntime, bytes: &[u8]) -> io::Result<()> {
     let t = independent::tables();
     let mut at: usize = 0;
     let mut all: u64 = 0;
     let mut differ: u64 = 0;
     while all < 1000 {
         if bytes.len() <= at {
-            summary(all, differ);
-            return;
+            return summary(rt, all, differ);
         }
         all += 1;
-        differ += told(all, agree(&t, bytes, at));
+        differ += told(rt, all, agree(&t, bytes, at))?;
         at = fields::after(bytes, at, 6);
     }
+    Ok(())
 }
 
 // Reads the file's hex and runs its vectors.
-fn read(file: &mut [u8]) {
+fn read(rt: &HostRuntime, file: &mut [u8]) -> io::Result<()> {
     let n = fields::spelled(file);
-    run_all(&file[0..n]);
+    run_all(rt, &file[0..n])
 }
 
-fn main() {
-    let mut path = io::buffer();
-    let n = os::arg(1, &mut path);
-    let fd = os::open_read(&path[..n]);
-    if fd < 0 {
-        os::fail(&path[..n]);
-        return;
-    }
-    let mut file = io::large_buffer();
-    let length = io::read_full(fd, &mut file);
-    libc::close(fd);
-    read(&mut file[..length]);
+// No more of the file is looked at.
+const MOST: usize = 65_536;
+
+fn main(rt: HostRuntime) -> io::Result<()> {
+    let alloc = rt.alloc();
+    let path = match env::args(&rt)?.nth(1) {
+        Some(path) => path,
+        None => String::new(alloc),
+    };
+    let mut file = fs::read(&rt, path.as_str())?;
+    let n = file.len().min(MOST);
+    read(&rt, &mut file.as_mut_slice()[..n])
 }

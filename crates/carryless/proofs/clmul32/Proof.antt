@@ -1,9 +1,9 @@
--- `carryless::clmul32` meets its contract: the four sums have their bits at the four places that are kept of them (`by-quarters`).
-use Rattle·block.proofs.Base.{needs}
-use Rattle·carryless·proofs.proofs.Words.{by-quarters}
-use Rattle·carryless·proofs.proofs.clmul32.Statement.{statement}
-use Rattle·carryless·proofs.proofs.clmul32.Tie as tie
+-- `carryless::clmul32` meets its contract: the four sums have their bits at the four places that are kept of them (`by_quarters`).
+use Rattle.block.proofs.Base.{rules}
+use Rattle.carryless.proofs.Words.{by_quarters}
+use Rattle.carryless.proofs.clmul32.Statement.{statement}
+use Rattle.carryless.proofs.clmul32.Tie as tie
 
-pub clmul32-spec : {M : Type 1} → statement M
-clmul32-spec = tie.close (tie.spec
-    (λ c κs. search needs) (λ c κs. search needs) (λ c κs. search needs) (λ c κs. search needs) (λ c. search (needs, by-quarters)))
+pub clmul32_spec : {M : Type 1} → statement M
+clmul32_spec = tie.close (tie.spec
+    (λ c. search rules) (λ c. search rules) (λ c. search rules) (λ c. search rules) (λ c. search (rules, by_quarters)))

@@ -1,9 +1,9 @@
--- `carryless::words_of` meets its contract: the words are as they are defined. What is cast has 32 bits (`high-lt`).
-use Rattle·block.proofs.Base.{needs}
-use Rattle·carryless·proofs.proofs.Joins.{high-lt}
-use Rattle·carryless·proofs.proofs.words_of.Statement.{statement}
-use Rattle·carryless·proofs.proofs.words_of.Tie as tie
+-- `carryless::words_of` meets its contract: the words are as they are defined. What is cast has 32 bits (`high_lt`).
+use Rattle.block.proofs.Base.{rules}
+use Rattle.carryless.proofs.Joins.{high_lt}
+use Rattle.carryless.proofs.words_of.Statement.{statement}
+use Rattle.carryless.proofs.words_of.Tie as tie
 
-pub words-of-spec : {M : Type 1} → statement M
-words-of-spec = tie.close (tie.spec (λ c. search needs) (λ c. search needs) (λ c. search needs) (λ c. search needs)
-    (λ c. search (needs, high-lt)) (λ c. search needs) (λ c. search needs))
+pub words_of_spec : {M : Type 1} → statement M
+words_of_spec = tie.close (tie.spec (λ c. search rules) (λ c. search rules) (λ c. search rules) (λ c. search rules)
+    (λ c. search (rules, high_lt)) (λ c. search rules) (λ c. search rules))

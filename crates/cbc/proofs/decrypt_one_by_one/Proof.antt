@@ -1,25 +1,25 @@
 -- `cbc::decrypt_one_by_one` meets its contract. A turn of the loop goes one block on (`reached-next`); at the end no full block is left,
 -- and a rest gives nothing.
-use Rattle·cbc·proofs.proofs.Names.{Reached, _-_, arith, cbcDecrypt, length, length-unwords, needs, reached-first, reached-next, refl}
-use Rattle·cbc·proofs.proofs.Names.{reverse, unwords, walk-ended}
-use Rattle·cbc·proofs.proofs.Blocks.{decrypt-block}
-use Rattle·cbc·proofs.proofs.decrypt_one_by_one.Statement.{statement}
-use Rattle·cbc·proofs.proofs.decrypt_one_by_one.Tie as tie
+use Rattle.cbc.proofs.Names.{Reached, ◌-◌, arith, cbc_decrypt, length, length-unwords, rules, reached-first, reached-next, refl}
+use Rattle.cbc.proofs.Names.{reverse, unwords, walk-ended}
+use Rattle.cbc.proofs.Blocks.{decrypt-block}
+use Rattle.cbc.proofs.decrypt_one_by_one.Statement.{statement}
+use Rattle.cbc.proofs.decrypt_one_by_one.Tie as tie
 
-abbrev Inv-loop : tie.InvT-loop
-Inv-loop t back d out₀ s₀ at₀ out s at = Reached (cbcDecrypt (reverse back)) (unwords s₀) d out₀ (unwords s) out at
+abbrev invariant_loop : tie.invariant-loop-at
+invariant_loop t back d out₀ s₀ at₀ out s at = Reached (cbc_decrypt (reverse back)) (unwords s₀) d out₀ (unwords s) out at
 
-abbrev μ-loop : tie.MeasureT-loop
-μ-loop t back d out₀ s₀ at₀ out s at = length d - at
+abbrev decreases_loop : tie.decreases-loop-at
+decreases_loop t back d out₀ s₀ at₀ out s at = length d - at
 
-loop-again : tie.Need-loop-again Inv-loop μ-loop
-loop-again c =
-    let at-step = c .before .before in
-    let l = at-step .before .before .before .before .loop in
-    reached-next _ _ _ _ _ _ _ (l .inv) _ _ (omega arith) (omega arith) (decrypt-block _ _ _ (length-unwords (l .s)))
-    (at-step .decrypt-step .ensures .0) (at-step .decrypt-step .ensures .1)
+loop_again : tie.Need-loop-at-preserved invariant_loop decreases_loop
+loop_again c =
+    let at-step = c.before.before in
+    let l = at-step.loop-at in
+    reached-next _ _ _ _ _ _ _ l.invariant _ _ (omega arith) (omega arith) (decrypt-block _ _ _ (length-unwords l.s))
+    at-step.decrypt_step-next.ensures.0 at-step.decrypt_step-next.ensures.1
 
-pub decrypt-one-by-one-spec : {M : Type 1} → statement M
-decrypt-one-by-one-spec = tie.close (tie.spec Inv-loop μ-loop (λ c. reached-first _ _ _ _) (λ c. omega arith) (λ c. omega arith)
-    (λ c. omega arith) (λ c. omega arith) (λ c. omega arith) (λ c. omega arith) (λ c. omega arith) (λ c κs. search needs) (λ c. omega arith)
-    (λ c. omega arith) loop-again (λ c. omega arith) (λ c. walk-ended (c .before .loop .inv) (omega arith) refl))
+pub decrypt_one_by_one_spec : {M : Type 1} → statement M
+decrypt_one_by_one_spec = tie.close (tie.spec invariant_loop decreases_loop (λ c. reached-first _ _ _ _) (λ c. omega arith) (λ c. omega arith)
+    (λ c. omega arith) (λ c. omega arith) (λ c. omega arith) (λ c. omega arith) (λ c. omega arith) (λ c. search rules) (λ c. omega arith)
+    (λ c. omega arith) loop_again (λ c. omega arith) (λ c. walk-ended c.loop-at.invariant (omega arith) refl))

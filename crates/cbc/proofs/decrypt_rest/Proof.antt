@@ -1,10 +1,10 @@
 -- `cbc::decrypt_rest` meets its contract: so does either way.
 
-use Rattle·cbc·proofs.proofs.Names.{needs}
-use Rattle·cbc·proofs.proofs.decrypt_rest.Statement.{statement}
-use Rattle·cbc·proofs.proofs.decrypt_rest.Tie as tie
+use Rattle.cbc.proofs.Names.{rules}
+use Rattle.cbc.proofs.decrypt_rest.Statement.{statement}
+use Rattle.cbc.proofs.decrypt_rest.Tie as tie
 
-pub decrypt-rest-spec : {M : Type 1} → statement M
-decrypt-rest-spec = tie.close (tie.spec (λ c κs. search needs) (λ c κs. search needs) (λ c. search needs)
-    (λ c. c .before .before .decrypt-side-by-side .ensures) (λ c κs. search needs) (λ c. search needs)
-    (λ c. c .before .before .decrypt-one-by-one .ensures))
+pub decrypt_rest_spec : {M : Type 1} → statement M
+decrypt_rest_spec = tie.close (tie.spec (λ c. search rules) (λ c. search rules) (λ c. search rules)
+    (λ c. c.decrypt_side_by_side.ensures) (λ c. search rules) (λ c. search rules)
+    (λ c. c.decrypt_one_by_one.ensures))

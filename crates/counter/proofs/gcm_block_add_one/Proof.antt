@@ -1,18 +1,18 @@
 -- `counter::gcm_block_add_one` meets its contract. The last word is below 2^32, so it is the number that its four bytes
 -- spell, and to count it up is to count these bytes up and keep the twelve before them (`gcm-jump-words`). It is 0 exactly where
--- they came round (`gcm-words-pass`).
-use Rattle·block.proofs.Base.{needs, getD, w32, Fits}
-use Rattle·counter·proofs.proofs.Steps.{gcm-jump-words, gcm-words-pass}
-use Rattle·counter·specs.specs.Counter.{gcmNext, gcmJump}
-use Rattle·counter·proofs.proofs.gcm_block_add_one.Statement.{statement}
-use Rattle·counter·proofs.proofs.gcm_block_add_one.Tie as tie
+-- they came round (`gcm-words_pass`).
+use Rattle.block.proofs.Base.{rules, get_or, w32, Fits}
+use Rattle.counter.proofs.Steps.{gcm-jump-words, gcm-words_pass}
+use Rattle.counter.specs.Counter.{gcm_next, gcm_jump}
+use Rattle.counter.proofs.gcm_block_add_one.Statement.{statement}
+use Rattle.counter.proofs.gcm_block_add_one.Tie as tie
 
-pub gcm-block-add-one-spec : {M : Type 1} → statement M
-gcm-block-add-one-spec =
+pub gcm_block_add_one_spec : {M : Type 1} → statement M
+gcm_block_add_one_spec =
     tie.close
     (tie.spec
-    (λ c. search needs) (λ c κs. search needs) (λ c. search needs) (λ c. search needs) (λ c. search needs)
-    (λ c. unfold gcmNext gcmJump in
-    let h : Fits w32 (getD (c .before .args .t1) 3 0) = search needs in
-    let e = c .wrapping-add-u32 .ensures in
-    (gcm-jump-words _ _ 1 (h .fits) e, gcm-words-pass _ _ (h .fits) e)))
+    (λ c. search rules) (λ c. search rules) (λ c. search rules) (λ c. search rules) (λ c. search rules)
+    (λ c. unfold gcm_next gcm_jump in
+    let h : Fits w32 (get_or c.before.args.a 3 0) = search rules in
+    let e = c.wrapping_add_u32-low.ensures in
+    (gcm-jump-words _ _ 1 h.fits e, gcm-words_pass _ _ h.fits e)))

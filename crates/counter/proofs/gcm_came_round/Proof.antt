@@ -1,10 +1,10 @@
 -- `counter::gcm_came_round` meets its contract: the blocks are more than what is left up to all ones exactly where they and
--- the word reach 2^32 (`gcm-left`).
-use Rattle·block.proofs.Base.{needs}
-use Rattle·counter·proofs.proofs.Formula.{gcm-left}
-use Rattle·counter·proofs.proofs.gcm_came_round.Statement.{statement}
-use Rattle·counter·proofs.proofs.gcm_came_round.Tie as tie
+-- the word reach 2^32 (`gcm_left`).
+use Rattle.block.proofs.Base.{rules}
+use Rattle.counter.proofs.Formula.{gcm_left}
+use Rattle.counter.proofs.gcm_came_round.Statement.{statement}
+use Rattle.counter.proofs.gcm_came_round.Tie as tie
 
-pub gcm-came-round-spec : {M : Type 1} → statement M
-gcm-came-round-spec = tie.close (tie.spec (λ c κs. search needs) (λ c. search needs) (λ c. search needs)
-    (λ c. rw (← c .blocks2 .ensures) (gcm-left _ _ (c .before .fits .low .fits))))
+pub gcm_came_round_spec : {M : Type 1} → statement M
+gcm_came_round_spec = tie.close (tie.spec (λ c. search rules) (λ c. search rules) (λ c. search rules)
+    (λ c. rw (← c.blocks-2.ensures) (gcm_left _ _ c.before.ranges.low.fits)))

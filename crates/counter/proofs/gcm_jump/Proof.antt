@@ -1,14 +1,14 @@
 -- `counter::gcm_jump` meets its contract: the last word counts alone (`gcm-jump-words`).
-use Rattle·block.proofs.Base.{needs, getD, w32, Fits}
-use Rattle·counter·proofs.proofs.Steps.{gcm-jump-words}
-use Rattle·counter·proofs.proofs.gcm_jump.Statement.{statement}
-use Rattle·counter·proofs.proofs.gcm_jump.Tie as tie
+use Rattle.block.proofs.Base.{rules, get_or, w32, Fits}
+use Rattle.counter.proofs.Steps.{gcm-jump-words}
+use Rattle.counter.proofs.gcm_jump.Statement.{statement}
+use Rattle.counter.proofs.gcm_jump.Tie as tie
 
-pub gcm-jump-spec : {M : Type 1} → statement M
-gcm-jump-spec =
+pub gcm_jump_spec : {M : Type 1} → statement M
+gcm_jump_spec =
     tie.close
     (tie.spec
-    (λ c. search needs) (λ c. search needs) (λ c. search needs) (λ c. search needs) (λ c κs. search needs)
+    (λ c. search rules) (λ c. search rules) (λ c. search rules) (λ c. search rules) (λ c. search rules)
     (λ c.
-    let h : Fits w32 (getD (c .before .args .t1) 3 0) = search needs in
-    gcm-jump-words _ _ _ (h .fits) (c .wrapping-add-u32 .ensures)))
+    let h : Fits w32 (get_or c.before.args.a 3 0) = search rules in
+    gcm-jump-words _ _ _ h.fits c.wrapping_add_u32.ensures))

@@ -1,33 +1,31 @@
 -- `editions::any_too_long` meets its contract. The loop's invariant: the lengths to come decide. The measure is how many they are.
-use Rattle·block.proofs.Base.{_-_, _≤_, _∙_, _≡_, refl, sym, arith, le-ltb, lt-ltb, now, drop, length}
-use Rattle·editions·specs.specs.Candidates.{anyTooLong}
-use Rattle·editions·proofs.proofs.Turns.{long-turn, long-end}
-use Rattle·editions·proofs.proofs.any_too_long.Statement.{statement}
-use Rattle·editions·proofs.proofs.any_too_long.Tie as tie
+use Rattle.block.proofs.Base.{◌-◌, ◌≤◌, ◌∙◌, ◌≡◌, refl, sym, arith, le-ltb, lt-ltb, drop, length}
+use Rattle.editions.specs.Candidates.{any_too_long}
+use Rattle.editions.proofs.Turns.{long_turn, long-end}
+use Rattle.editions.proofs.any_too_long.Statement.{statement}
+use Rattle.editions.proofs.any_too_long.Tie as tie
 
-abbrev Inv-loop : tie.InvT-loop
-Inv-loop lengths i₀ i = (i ≤ length lengths) × (anyTooLong (drop i lengths) ≡ anyTooLong lengths)
+abbrev invariant_loop : tie.invariant-loop-i
+invariant_loop lengths i₀ i = (i ≤ length lengths) × (any_too_long (drop i lengths) ≡ any_too_long lengths)
 
-abbrev μ-loop : tie.MeasureT-loop
-μ-loop lengths i₀ i = length lengths - i
+abbrev decreases_loop : tie.decreases-loop-i
+decreases_loop lengths i₀ i = length lengths - i
 
-returns : tie.Need-returns Inv-loop μ-loop
+returns : tie.Need-returns-then-lengths-i-gt-LIMIT invariant_loop decreases_loop
 returns c =
-    let at-loop = c .before .before .before in
-    let turn = long-turn (now (at-loop .before .args .lengths)) (at-loop .loop .i) (omega arith) in
-    sym (sym (at-loop .loop .inv .1) ∙ turn ∙ rw (lt-ltb _ _ (c .if1 .taken)))
+    let turn = long_turn (c.args.lengths.now) c.loop-i.i (omega arith) in
+    sym (sym c.loop-i.invariant.1 ∙ turn ∙ rw (lt-ltb _ _ c.if-lengths-i-gt-LIMIT.true))
 
-loop-again : tie.Need-loop-again Inv-loop μ-loop
-loop-again c =
-    let at-loop = c .before .before .before in
-    let turn = long-turn (now (at-loop .before .args .lengths)) (at-loop .loop .i) (omega arith) in
-    (omega arith, sym (sym (at-loop .loop .inv .1) ∙ turn ∙ rw (le-ltb _ _ (c .if1 .left))))
+loop_again : tie.Need-loop-i-preserved invariant_loop decreases_loop
+loop_again c =
+    let turn = long_turn (c.args.lengths.now) c.loop-i.i (omega arith) in
+    (omega arith, sym (sym c.loop-i.invariant.1 ∙ turn ∙ rw (le-ltb _ _ c.if-lengths-i-gt-LIMIT.false)))
 
-returns-2 : tie.Need-returns-2 Inv-loop μ-loop
-returns-2 c =
-    let at-loop = c .before in
-    sym (long-end (now (at-loop .before .args .lengths)) (at-loop .loop .i) (omega arith)) ∙ at-loop .loop .inv .1
+returns_2 : tie.Need-returns invariant_loop decreases_loop
+returns_2 c =
+    sym (long-end (c.args.lengths.now) c.loop-i.i (omega arith)) ∙ c.loop-i.invariant.1
 
-pub any-too-long-spec : {M : Type 1} → statement M
-any-too-long-spec = tie.close (tie.spec Inv-loop μ-loop (λ c. (omega arith, refl)) (λ c. omega arith) (λ c. omega arith) returns
-    (λ c. omega arith) (λ c. omega arith) loop-again returns-2)
+pub any_too_long_spec : {M : Type 1} → statement M
+any_too_long_spec = tie.close (tie.spec invariant_loop decreases_loop (λ c. (omega arith, refl)) (λ c. omega arith)
+    (λ c. omega arith) returns
+    (λ c. omega arith) (λ c. omega arith) loop_again returns_2)

@@ -1,34 +1,34 @@
 -- `editions::part` meets its contract: each return is the definition, by the tests that led there. The start is tested before the
 -- difference is taken, and the two tests are the definition's one.
-use Rattle·block.proofs.Base.{_+_, _-_, _<_, _∙_, _≡_, sym, true, [], arith, needs, le-ltb, lt-ltb, not-false, not-true, now, length}
-use Rattle·editions·specs.specs.Which.{isFound, partOf, verdictOf}
-use Rattle·editions·proofs.proofs.part.Statement.{statement}
-use Rattle·editions·proofs.proofs.part.Tie as tie
-
-is-found : (x : tie.Else1) → isFound (x .before .before .before .args .found .ended) ≡ true
-is-found x = sym (x .before .is-candidate .ensures) ∙ not-false (x .before .is-candidate .result) (x .if1 .left)
+use Rattle.block.proofs.Base.{◌+◌, ◌-◌, ◌<◌, ◌∙◌, ◌≡◌, sym, true, [], arith, rules, le-ltb, lt-ltb, length, List, ℕ}
+use Rattle.editions.specs.Which.{is_found, part_of, verdict_of}
+use Rattle.editions.specs.declared.Found.{Found}
+use Rattle.editions.proofs.part.Statement.{statement}
+use Rattle.editions.proofs.part.Tie as tie
 
 -- a part that ends outside the buffer is handed back empty
-outside : (x : tie.Else1)
-    → let a = x .before .before .before .args in
-    length (now (a .labels)) < a .found .start + a .found .length → [] ≡ partOf (verdictOf (a .found)) (now (a .labels))
-unfolding partOf
-outside x h = rw (is-found x, lt-ltb _ _ h)
+outside : (found : Found) (labels : List ℕ) → is_found found.ended ≡ true → length labels < found.start + found.length
+    → [] ≡ part_of (verdict_of found) labels
+unfolding part_of
+outside found labels e h = rw (e, lt-ltb _ _ h)
 
-returns-4 : tie.Need-returns-4
-unfolding partOf
-returns-4 c =
-    let a = c .before .before .before .before .before .before .args in
-    let size : a .found .start + a .found .length - a .found .start ≡ a .found .length = omega arith in
-    rw (size, is-found (c .before .before .before), le-ltb (length (now (a .labels))) (a .found .start + a .found .length) (omega arith))
+returns_4 : tie.Need-returns
+unfolding part_of
+returns_4 c =
+    let a = c.args in
+    let size : a.found.start + a.found.length - a.found.start ≡ a.found.length = omega arith in
+    let found = sym c.is_candidate.ensures ∙ c.if-not-is_candidate.false in
+    rw (size, found, le-ltb (length (a.labels.now)) (a.found.start + a.found.length) (omega arith))
 
-pub part-spec : {M : Type 1} → statement M
-unfolding partOf
-part-spec = tie.close (tie.spec (λ c. search needs) (λ c. search needs) (λ c. search needs) (λ c. search needs)
-    (λ c. let at-test = c .before .before in
-    rw (← at-test .is-candidate .ensures, not-true (at-test .is-candidate .result) (c .before .if1 .taken)))
-    (λ c. search needs) (λ c. search needs) (λ c. search needs) (λ c. outside (c .before .before) (omega arith)) (λ c. search needs)
-    (λ c. search needs)
-    (λ c. search needs) (λ c. search needs) (λ c. outside (c .before .before .before) (omega arith)) (λ c. search needs) (λ c. search needs)
-    (λ c. search needs)
-    (λ c. search needs) returns-4)
+pub part_spec : {M : Type 1} → statement M
+unfolding part_of
+part_spec = tie.close (tie.spec (λ c. search rules) (λ c. search rules) (λ c. search rules) (λ c. search rules)
+    (λ c. rw (← c.is_candidate.ensures, c.if-not-is_candidate.true))
+    (λ c. search rules) (λ c. search rules) (λ c. search rules)
+    (λ c. outside c.args.found (c.args.labels.now) (sym c.is_candidate.ensures ∙ c.if-not-is_candidate.false) (omega arith))
+    (λ c. search rules)
+    (λ c. search rules) (λ c. search rules) (λ c. search rules)
+    (λ c. outside c.args.found (c.args.labels.now) (sym c.is_candidate.ensures ∙ c.if-not-is_candidate.false) (omega arith))
+    (λ c. search rules) (λ c. search rules)
+    (λ c. search rules)
+    (λ c. search rules) returns_4)

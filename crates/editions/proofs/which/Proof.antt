@@ -1,43 +1,29 @@
 -- `editions::which` meets its contract: a bad list ends it, then what a check refused, and then the search gives the verdict.
-use Rattle·block.proofs.Base.{_∙_, _≡_, sym, false, needs, now}
-use Rattle·editions·specs.specs.Candidates.{badList}
-use Rattle·editions·specs.specs.Which.{which}
-use Rattle·editions·proofs.proofs.Passed.{adds-up, search-passed}
-use Rattle·editions·proofs.proofs.which.Statement.{statement}
-use Rattle·editions·proofs.proofs.which.Tie as tie
+use Rattle.block.proofs.Base.{◌∙◌, sym, rules}
+use Rattle.editions.specs.Which.{which}
+use Rattle.editions.proofs.Passed.{adds_up, search_passed}
+use Rattle.editions.proofs.which.Statement.{statement}
+use Rattle.editions.proofs.which.Tie as tie
 
-list-stands : (x : tie.Else1)
-    → let a = x .before .before .before .before .before .before .args in
-    badList (now (a .labels)) (now (a .lengths)) ≡ false
-list-stands x = sym (x .before .bad-list .ensures) ∙ x .if1 .left
-
-returns-2 : tie.Need-returns-2
+returns_2 : tie.Need-returns-in-Refused
 unfolding which
-returns-2 c =
-    let told = c .before .before in
-    let at-check = told .before .before in
-    let at-number = at-check .before in
-    rw (list-stands (at-number .before), ← at-check .check .ensures, told .checked .given .1, c .without2 .ensures)
-    (rw (at-number .number-in .ensures))
+returns_2 c =
+    rw (sym c.bad_list.ensures ∙ c.if-bad_list.false, ← c.check-checked.ensures, c.in-Refused.is, c.without-in-Refused.ensures)
+    (rw c.number_in-key.ensures)
 
-under-key-requires : tie.Need-under-key-requires
-under-key-requires c κs =
-    let told = c .before in
-    let at-check = told .before .before in
-    let in-order = search-passed _ _ _ _ _ (sym (at-check .check .ensures) ∙ told .enum-told .given .1) in
-    (in-order .iv-size, (in-order .content, (adds-up _ _ (list-stands (at-check .before .before)), in-order .short)))
+under-key_requires : tie.Need-under_key-requires
+under-key_requires c _ =
+    let in_order = search_passed _ _ _ _ _ (sym c.check-checked.ensures ∙ c.in_default.is) in
+    (in_order.iv-size, (in_order.content, (adds_up _ _ (sym c.bad_list.ensures ∙ c.if-bad_list.false), in_order.short)))
 
-returns-3 : tie.Need-returns-3
+returns_3 : tie.Need-returns
 unfolding which
-returns-3 c =
-    let told = c .before .before in
-    let at-check = told .before .before in
-    let at-number = at-check .before in
-    rw (list-stands (at-number .before), ← at-check .check .ensures, told .enum-told .given .1, c .under-key .ensures)
-    (rw (at-number .number-in .ensures))
+returns_3 c =
+    rw (sym c.bad_list.ensures ∙ c.if-bad_list.false, ← c.check-checked.ensures, c.in_default.is, c.under_key.ensures)
+    (rw c.number_in-key.ensures)
 
-pub which-spec : {M : Type 1} → statement M
+pub which_spec : {M : Type 1} → statement M
 unfolding which
-which-spec = tie.close (tie.spec (λ c. search needs) (λ c. search needs)
-    (λ c. rw (← c .before .before .bad-list .ensures, c .before .if1 .taken, c .without .ensures)) (λ c. search needs) (λ c. search needs)
-    (λ c. search needs) (λ c. search needs) returns-2 (λ c. search needs) under-key-requires returns-3)
+which_spec = tie.close (tie.spec (λ c. search rules) (λ c. search rules)
+    (λ c. rw (← c.bad_list.ensures, c.if-bad_list.true, c.without.ensures)) (λ c. search rules) (λ c. search rules)
+    (λ c. search rules) (λ c. search rules) returns_2 (λ c. search rules) under-key_requires returns_3)

@@ -1,19 +1,19 @@
 -- `gcm::tag` meets its contract: the mask is the cipher of J0.
-use Rattle·gcm·proofs.proofs.Names.{Fits, List, _^_, _∙_, _≡_, ap, below-each, encrypt-unwords, getD, length, maskedTag, needs, now, tagOf}
-use Rattle·gcm·proofs.proofs.Names.{unwords, value, w32, ℕ}
-use Rattle·gcm·proofs.proofs.tag.Statement.{statement}
-use Rattle·gcm·proofs.proofs.tag.Tie as tie
+use Rattle.gcm.proofs.Names.{Fits, List, ◌^◌, ◌∙◌, ◌≡◌, ap, below_each, encrypt-unwords, get_or, length, masked_tag, rules, tag_of}
+use Rattle.gcm.proofs.Names.{unwords, value, w32, ℕ}
+use Rattle.gcm.proofs.tag.Statement.{statement}
+use Rattle.gcm.proofs.tag.Tie as tie
 
 returns : tie.Need-returns
-unfolding tagOf
+unfolding tag_of
 returns c =
-    let S = c .before .before .before .before .before in
-    let a = S .args in
-    let counter = S .good .1 .1 .1 .0 in
-    let four : length (a .j0) ≡ 4 = search (needs, counter) in
-    let fits : (i : ℕ) → Fits w32 (getD (a .j0) i 0) = λ i. search (needs, counter) in
-    c .masked-tag .ensures ∙ ap (λ (m : List ℕ). maskedTag m (value (a .h)) (now (a .aad)) (now (a .text)))
-    (ap unwords (c .before .encrypt .ensures) ∙ encrypt-unwords (a .rk) (a .j0) four (below-each (2 ^ 32) (a .j0) (λ i. fits i .fits)))
+    let S = c.before.before.before.before.before in
+    let a = S.args in
+    let counter = S.well_formed.1.1.1.0 in
+    let four : length a.j0 ≡ 4 = search (rules, counter) in
+    let fits : (i : ℕ) → Fits w32 (get_or a.j0 i 0) = λ i. search (rules, counter) in
+    c.masked_tag.ensures ∙ ap (λ (m : List ℕ). masked_tag m (value a.h) (a.aad.now) (a.text.now))
+    (ap unwords c.encrypt-mask.ensures ∙ encrypt-unwords a.rk a.j0 four (below_each (2 ^ 32) a.j0 (λ i. (fits i).fits)))
 
-pub tag-spec : {M : Type 1} → statement M
-tag-spec = tie.close (tie.spec (λ c κs. search needs) (λ c κs. search needs) returns)
+pub tag_spec : {M : Type 1} → statement M
+tag_spec = tie.close (tie.spec (λ c. search rules) (λ c. search rules) returns)

@@ -1,8 +1,8 @@
--- `gcm::tag_part` meets its contract: a slice from a place on is the list without what comes before (`tail-is`).
-use Rattle·gcm·proofs.proofs.Names.{_-_, length, needs, tail-is}
-use Rattle·gcm·proofs.proofs.tag_part.Statement.{statement}
-use Rattle·gcm·proofs.proofs.tag_part.Tie as tie
+-- `gcm::tag_part` meets its contract: a slice from a place on is the list without what comes before (`tail_is`).
+use Rattle.gcm.proofs.Names.{◌-◌, length, rules, tail_is}
+use Rattle.gcm.proofs.tag_part.Statement.{statement}
+use Rattle.gcm.proofs.tag_part.Tie as tie
 
-pub tag-part-spec : {M : Type 1} → statement M
-tag-part-spec = tie.close (tie.spec (λ c. search needs) (λ c. search needs) (λ c. search needs) (λ c. search needs)
-    (λ c. let d = c .before .args .«data» .now in tail-is d (length d - 16)))
+pub tag_part_spec : {M : Type 1} → statement M
+tag_part_spec = tie.close (tie.spec (λ c. search rules) (λ c. search rules) (λ c. search rules) (λ c. search rules)
+    (λ c. let d = c.args.«data».now in tail_is d (length d - 16)))

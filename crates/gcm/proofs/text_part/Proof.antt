@@ -1,7 +1,7 @@
 -- `gcm::text_part` meets its contract: a slice from 0 to a place is the list up to it.
-use Rattle·gcm·proofs.proofs.Names.{needs, sub-zero}
-use Rattle·gcm·proofs.proofs.text_part.Statement.{statement}
-use Rattle·gcm·proofs.proofs.text_part.Tie as tie
+use Rattle.gcm.proofs.Names.{rules, sub-zero}
+use Rattle.gcm.proofs.text_part.Statement.{statement}
+use Rattle.gcm.proofs.text_part.Tie as tie
 
-pub text-part-spec : {M : Type 1} → statement M
-text-part-spec = tie.close (tie.spec (λ c. search needs) (λ c. search needs) (λ c. search needs) (λ c. search needs) (λ c. simp sub-zero))
+pub text_part_spec : {M : Type 1} → statement M
+text_part_spec = tie.close (tie.spec (λ c. search rules) (λ c. search rules) (λ c. search rules) (λ c. search rules) (λ c. simp sub-zero))

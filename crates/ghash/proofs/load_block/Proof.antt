@@ -1,9 +1,9 @@
 -- `ghash::load_block` meets its contract. Of a full block `split_block` ensures the words; of a short one each call of
 -- `word_or_zeros` ensures its own, and `words` is by definition the list of the four.
-use Rattle·ghash·proofs.proofs.Names.{needs, words}
-use Rattle·ghash·proofs.proofs.load_block.Statement.{statement}
-use Rattle·ghash·proofs.proofs.load_block.Tie as tie
+use Rattle.ghash.proofs.Names.{rules, words}
+use Rattle.ghash.proofs.load_block.Statement.{statement}
+use Rattle.ghash.proofs.load_block.Tie as tie
 
-pub load-block-spec : {M : Type 1} → statement M
-load-block-spec = tie.close (tie.spec (λ c κs. search needs) (λ c. search needs) (λ c κs. search needs) (λ c κs. search needs)
-    (λ c κs. search needs) (λ c κs. search needs) (λ c. unfold words in search needs))
+pub load_block_spec : {M : Type 1} → statement M
+load_block_spec = tie.close (tie.spec (λ c. search rules) (λ c. search rules) (λ c. search rules) (λ c. search rules)
+    (λ c. search rules) (λ c. search rules) (λ c. unfold words in search rules))

@@ -1,16 +1,16 @@
 -- `luossavin::luossavin_block_decrypt` meets its contract: it reports the call on the host's record.
-use Rattle·luossavin·specs.specs.Host.{hostBlockCall}
-use Rattle·luossavin·proofs.proofs.Steps.{told}
-use Rattle·block.proofs.Base.{needs}
-use Rattle·luossavin·proofs.proofs.luossavin_block_decrypt.Statement.{statement}
-use Rattle·luossavin·proofs.proofs.luossavin_block_decrypt.Tie as tie
+use Rattle.luossavin.specs.Host.{host_block_call}
+use Rattle.luossavin.proofs.Steps.{told}
+use Rattle.block.proofs.Base.{rules}
+use Rattle.luossavin.proofs.luossavin_block_decrypt.Statement.{statement}
+use Rattle.luossavin.proofs.luossavin_block_decrypt.Tie as tie
 
 returns : tie.Need-returns
-unfolding hostBlockCall
+unfolding host_block_call
 returns c =
-    let at-call = c .before .before .before in
-    told (c .report .ensures) (rw (← at-call .before .before .cipher-of .ensures) (at-call .call .ensures))
+    let at_call = c.before.before.before in
+    told c.report.ensures (rw (← at_call.cipher_of.ensures) at_call.call.ensures)
 
-pub luossavin-block-decrypt-spec : {M : Type 1} → statement M
-luossavin-block-decrypt-spec =
-    tie.close (tie.spec (λ c κs. search needs) (λ c κs. search needs) (λ c κs. search needs) (λ c. search needs) returns)
+pub luossavin_block_decrypt_spec : {M : Type 1} → statement M
+luossavin_block_decrypt_spec =
+    tie.close (tie.spec (λ c. search rules) (λ c. search rules) (λ c. search rules) (λ c. search rules) returns)

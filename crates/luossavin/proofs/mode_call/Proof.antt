@@ -1,25 +1,25 @@
 -- `luossavin::mode_call` meets its contract: for a mode number up to 4 it reports the call on the host's record, and above that it refuses.
-use Rattle·block.proofs.Base.{refl, arith, needs, le-ltb, lt-ltb}
-use Rattle·luossavin·specs.specs.Host.{hostModeCall}
-use Rattle·luossavin·proofs.proofs.Steps.{told}
-use Rattle·luossavin·proofs.proofs.mode_call.Statement.{statement}
-use Rattle·luossavin·proofs.proofs.mode_call.Tie as tie
+use Rattle.block.proofs.Base.{refl, arith, rules, le-ltb, lt-ltb}
+use Rattle.luossavin.specs.Host.{host_mode_call}
+use Rattle.luossavin.proofs.Steps.{told}
+use Rattle.luossavin.proofs.mode_call.Statement.{statement}
+use Rattle.luossavin.proofs.mode_call.Tie as tie
 
-returns : tie.Need-returns
-unfolding hostModeCall
+returns : tie.Need-returns-in-0-to-4
+unfolding host_mode_call
 returns c =
-    let at-call = c .before .before .before in
-    let at-mode = at-call .before .before in
-    let a = at-mode .before .before .before .before .before .before .args in
-    rw (le-ltb 4 (a .mode) (omega arith))
-    (told (c .report .ensures) (rw (← at-mode .mode-in .ensures) (at-call .call .ensures)))
+    let at_call = c.before.before.before in
+    let at-mode = at_call.before.before in
+    let a = at-mode.args in
+    rw (le-ltb 4 a.mode (omega arith))
+    (told c.report.ensures (rw (← at-mode.mode_in.ensures) at_call.call.ensures))
 
-returns-2 : tie.Need-returns-2
-unfolding hostModeCall
-returns-2 c =
-    let a = c .before .before .before .before .before .before .args in
-    rw (lt-ltb 4 (a .mode) (omega arith)) (told (c .numbered .ensures) refl)
+returns_2 : tie.Need-returns-in_default
+unfolding host_mode_call
+returns_2 c =
+    let a = c.args in
+    rw (lt-ltb 4 a.mode (omega arith)) (told c.numbered.ensures refl)
 
-pub mode-call-spec : {M : Type 1} → statement M
-mode-call-spec = tie.close (tie.spec (λ c κs. search needs) (λ c κs. search needs) (λ c κs. search needs) (λ c κs. search needs)
-    (λ c. search needs) returns returns-2)
+pub mode_call_spec : {M : Type 1} → statement M
+mode_call_spec = tie.close (tie.spec (λ c. search rules) (λ c. search rules) (λ c. search rules) (λ c. search rules)
+    (λ c. search rules) returns returns_2)

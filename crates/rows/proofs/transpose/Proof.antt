@@ -1,10 +1,10 @@
 -- `rows::transpose` meets its contract: the six stages swap all six digits of the rows' and the bits' numbers (`six`), and the last one has
--- stored every word (`all-small`).
-use Rattle·block.proofs.Base.{needs}
-use Rattle·rows·proofs.proofs.Six.{six, all-small}
-use Rattle·rows·proofs.proofs.transpose.Statement.{statement}
-use Rattle·rows·proofs.proofs.transpose.Tie as tie
+-- stored every word (`all_small`).
+use Rattle.block.proofs.Base.{rules}
+use Rattle.rows.proofs.Six.{six, all_small}
+use Rattle.rows.proofs.transpose.Statement.{statement}
+use Rattle.rows.proofs.transpose.Tie as tie
 
-pub transpose-spec : {M : Type 1} → statement M
-transpose-spec = tie.close (tie.spec (λ c κs. search needs) (λ c κs. search needs) (λ c κs. search needs) (λ c κs. search needs)
-    (λ c κs. search needs) (λ c κs. search needs) (λ c. search (needs, six, all-small)))
+pub transpose_spec : {M : Type 1} → statement M
+transpose_spec = tie.close (tie.spec (λ c. search rules) (λ c. search rules) (λ c. search rules) (λ c. search rules)
+    (λ c. search rules) (λ c. search rules) (λ c. search (rules, six, all_small)))

@@ -1,10 +1,10 @@
--- `sliced::column_at` meets its contract: each of the eight words is the sum of three planes at its place, and its mask (`eight-sums`).
-use Rattle·sliced·proofs.proofs.Names.{needs, next8}
-use Rattle·sliced·proofs.proofs.KeyBits.{eight-sums}
-use Rattle·sliced·proofs.proofs.column_at.Statement.{statement}
-use Rattle·sliced·proofs.proofs.column_at.Tie as tie
+-- `sliced::column_at` meets its contract: each of the eight words is the sum of three planes at its place, and its mask (`eight_sums`).
+use Rattle.sliced.proofs.Names.{rules, next8}
+use Rattle.sliced.proofs.KeyBits.{eight_sums}
+use Rattle.sliced.proofs.column_at.Statement.{statement}
+use Rattle.sliced.proofs.column_at.Tie as tie
 
-pub column-at-spec : {M : Type 1} → statement M
-column-at-spec = tie.close (next8 (next8 tie.spec (search needs)) (search needs)
-    (λ c. search needs) (λ c. search needs) (λ c κs. search needs) (λ c. search needs) (λ c. search needs) (λ c κs. search needs)
-    (λ c. search needs) (λ c. search (needs, eight-sums)))
+pub column_at_spec : {M : Type 1} → statement M
+column_at_spec = tie.close (next8 (next8 tie.spec (search rules)) (search rules)
+    (λ c. search rules) (λ c. search rules) (λ c. search rules) (λ c. search rules) (λ c. search rules) (λ c. search rules)
+    (λ c. search rules) (λ c. search (rules, eight_sums)))

@@ -1,13 +1,10 @@
 -- `sliced::encrypt_xored` meets its contract: the rows that are loaded are the words of the blocks, those that are stored their ciphers.
-use Rattle·sliced·proofs.proofs.Names.{arith, encryptBlock, needs}
-use Rattle·sliced·proofs.proofs.encrypt_xored.Statement.{statement}
-use Rattle·sliced·proofs.proofs.encrypt_xored.Tie as tie
+use Rattle.sliced.proofs.Names.{arith, encrypt_block, rules}
+use Rattle.sliced.proofs.encrypt_xored.Statement.{statement}
+use Rattle.sliced.proofs.encrypt_xored.Tie as tie
 
-pub encrypt-xored-spec : {M : Type 1} → statement M
-encrypt-xored-spec = tie.close (tie.spec
-    (λ c κs. search needs) (λ c κs. search needs) (λ c κs. search needs) (λ c κs. search needs) (λ c. search needs)
-    (λ c. unfold encryptBlock in
-    let at-store = c .before .before in
-    let at-encrypt = at-store .before .before .before .before in
-    let at-load = at-encrypt .before .before .before .before in
-    at-store .store-xored .ensures _ (at-encrypt .encrypt .ensures .0 _ _ (omega arith) (at-load .load .ensures))))
+pub encrypt_xored_spec : {M : Type 1} → statement M
+encrypt_xored_spec = tie.close (tie.spec
+    (λ c. search rules) (λ c. search rules) (λ c. search rules) (λ c. search rules) (λ c. search rules)
+    (λ c. unfold encrypt_block in
+    c.store_xored.ensures _ (c.encrypt.ensures.0 _ _ (omega arith) c.load.ensures)))

@@ -1,8 +1,8 @@
 -- `sliced::leave` meets its contract: two planes joined and transposed are the halves of blocks whose words are the lanes (`halved`).
-use Rattle·sliced·proofs.proofs.Names.{needs}
-use Rattle·sliced·proofs.proofs.Halves.{halved}
-use Rattle·sliced·proofs.proofs.leave.Statement.{statement}
-use Rattle·sliced·proofs.proofs.leave.Tie as tie
+use Rattle.sliced.proofs.Names.{rules}
+use Rattle.sliced.proofs.Halves.{halved}
+use Rattle.sliced.proofs.leave.Statement.{statement}
+use Rattle.sliced.proofs.leave.Tie as tie
 
-pub leave-spec : {M : Type 1} → statement M
-leave-spec = tie.close (tie.spec (λ c κs. search needs) (λ c κs. search needs) (λ c. search (needs, halved)))
+pub leave_spec : {M : Type 1} → statement M
+leave_spec = tie.close (tie.spec (λ c. search rules) (λ c. search rules) (λ c. search (rules, halved)))

@@ -1,10 +1,10 @@
 -- `stream::finish` meets its contract: so does either way.
 
-use Rattle·stream·proofs.proofs.Names.{needs}
-use Rattle·stream·proofs.proofs.finish.Statement.{statement}
-use Rattle·stream·proofs.proofs.finish.Tie as tie
+use Rattle.stream.proofs.Names.{rules}
+use Rattle.stream.proofs.finish.Statement.{statement}
+use Rattle.stream.proofs.finish.Tie as tie
 
-pub finish-spec : {M : Type 1} → statement M
-finish-spec = tie.close (tie.spec (λ c κs. search needs)
-    (λ c κs. (c .before .before .side-by-side .ensures (c .before .if1 .taken), search needs)) (λ c. search needs)
-    (λ c. c .before .before .run .ensures) (λ c κs. search needs) (λ c. search needs) (λ c. c .before .before .one-by-one .ensures))
+pub finish_spec : {M : Type 1} → statement M
+finish_spec = tie.close (tie.spec (λ c. search rules)
+    (λ c κs. (c.side_by_side.ensures c.if-side_by_side.true, search rules)) (λ c. search rules)
+    (λ c. c.run.ensures) (λ c. search rules) (λ c. search rules) (λ c. c.one_by_one.ensures))

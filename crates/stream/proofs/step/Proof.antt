@@ -1,33 +1,26 @@
 -- `stream::step` meets its contract. The words that are ciphered, read and xored are those of sixteen bytes (`unwords-front`,
 -- `encrypt-unwords`, `front-xored`), so what is written and the next state are the definition's.
-use Rattle·stream·proofs.proofs.Names.{Fits, _<_, _^_, _∙_, _≡_, arith, below-each, encrypt-four, encrypt-unwords, encryptWords}
-use Rattle·stream·proofs.proofs.Names.{front-xored, getD, length, needs, now, unwords-front, w32, ℕ}
-use Rattle·stream·proofs.proofs.step.Statement.{statement}
-use Rattle·stream·proofs.proofs.step.Tie as tie
+use Rattle.stream.proofs.Names.{Fits, ◌<◌, ◌^◌, ◌∙◌, ◌≡◌, arith, below_each, encrypt-four, encrypt-unwords, encrypt_words}
+use Rattle.stream.proofs.Names.{front-xored, get_or, length, rules, unwords-front, w32, ℕ}
+use Rattle.stream.proofs.step.Statement.{statement}
+use Rattle.stream.proofs.step.Tie as tie
 
 returns : tie.Need-returns
 returns c =
-    let at-put-block = c .before .before .before in
-    let at-xor = at-put-block .before .before in
-    let at-split = at-xor .before in
-    let at-encrypt = at-split .before in
-    let at-data = at-encrypt .before .before in
-    let S = at-data .before .before in
-    let a = S .args in
-    let d = now (a .«data») in
-    let state = S .good .1 .1 .1 .0 in
-    let four : length (a .s) ≡ 4 = search (needs, state) in
-    let fits : (i : ℕ) → Fits w32 (getD (a .s) i 0) = λ i. search (needs, state) in
-    let small : (i : ℕ) → getD d i 0 < 256 = λ i. omega (arith, at-data .shared-slice-known2 .given i) in
-    let bytes = below-each 256 d small in
-    let read = unwords-front d (S .pre .1 .0) bytes in
-    let ciphered = encrypt-unwords (a .rk) (a .s) four (below-each (2 ^ 32) (a .s) (λ i. fits i .fits)) in
-    let xored = rw ciphered at (front-xored d (encryptWords (a .rk) (a .s)) (S .pre .1 .0) bytes (encrypt-four (a .rk) (a .s))) in
-    let x = at-xor .block-xor .ensures in
-    let b = at-split .split-block .ensures in
-    let e = at-encrypt .encrypt .ensures in
-    (c .state-after .ensures ∙ rw (x, b, e, read, ciphered, xored), at-put-block .put-block .ensures ∙ rw (x, b, e, xored))
+    let a = c.args in
+    let d = a.«data».now in
+    let four : length a.s ≡ 4 = search (rules, c.well_formed) in
+    let fits : (i : ℕ) → Fits w32 (get_or a.s i 0) = λ i. search (rules, c.well_formed) in
+    let small : (i : ℕ) → get_or d i 0 < 256 = λ i. omega (arith, c.shared_slice_known-2-1.given i) in
+    let bytes = below_each 256 d small in
+    let read = unwords-front d c.requires.1.0 bytes in
+    let ciphered = encrypt-unwords a.rk a.s four (below_each (2 ^ 32) a.s (λ i. (fits i).fits)) in
+    let xored = rw ciphered at (front-xored d (encrypt_words a.rk a.s) c.requires.1.0 bytes (encrypt-four a.rk a.s)) in
+    let x = c.block_xor-c.ensures in
+    let b = c.split_block-b.ensures in
+    let e = c.encrypt-e.ensures in
+    (c.state_after.ensures ∙ rw (x, b, e, read, ciphered, xored), c.put_block.ensures ∙ rw (x, b, e, xored))
 
-pub step-spec : {M : Type 1} → statement M
-step-spec = tie.close (tie.spec (λ c κs. search needs) (λ c κs. search needs) (λ c κs. search needs) (λ c κs. search needs)
-    (λ c κs. search needs) (λ c. search needs) returns)
+pub step_spec : {M : Type 1} → statement M
+step_spec = tie.close (tie.spec (λ c. search rules) (λ c. search rules) (λ c. search rules) (λ c. search rules)
+    (λ c. search rules) (λ c. search rules) returns)

@@ -1,15 +1,14 @@
 -- `stream::stream` meets its contract: what goes on from where the batches have come to ends the walk (`onward`).
-use Rattle·stream·proofs.proofs.Names.{arith, needs}
-use Rattle·stream·proofs.proofs.Walks.{onward}
-use Rattle·stream·proofs.proofs.stream.Statement.{statement}
-use Rattle·stream·proofs.proofs.stream.Tie as tie
+use Rattle.stream.proofs.Names.{arith, rules}
+use Rattle.stream.proofs.Walks.{onward}
+use Rattle.stream.proofs.stream.Statement.{statement}
+use Rattle.stream.proofs.stream.Tie as tie
 
 returns : tie.Need-returns
 returns c =
-    let at-run = c .before .before .before .before .before .before .before .before in
-    let a = at-run .before .before .before .before .before .args in
-    onward (a .kind) (a .rk) (at-run .run .ensures) _ _ _ _ (c .before .before .finish .ensures)
+    let a = c.args in
+    onward a.kind a.rk c.run-begun.ensures _ _ _ _ c.finish.ensures
 
-pub stream-spec : {M : Type 1} → statement M
-stream-spec = tie.close (tie.spec (λ c κs. search needs) (λ c. omega arith) (λ c. omega arith) (λ c. omega arith) (λ c. omega arith)
-    (λ c. omega arith) (λ c. omega arith) (λ c κs. (search needs, omega arith)) (λ c. omega arith) returns)
+pub stream_spec : {M : Type 1} → statement M
+stream_spec = tie.close (tie.spec (λ c. search rules) (λ c. omega arith) (λ c. omega arith) (λ c. omega arith) (λ c. omega arith)
+    (λ c. omega arith) (λ c. omega arith) (λ c κs. (search rules, omega arith)) (λ c. omega arith) returns)

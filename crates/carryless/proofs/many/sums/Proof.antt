@@ -1,17 +1,17 @@
 -- `carryless::many::sums` meets its contract. The loop's invariant: the first g sums are there.
-use Rattle·block.proofs.Base.{_-_, _≤_, _≡_, refl, arith, needs, getD, length}
-use Rattle·block.specs.Xor.{_⊕_}
-use Rattle·lanes.proofs.Needs.{next8}
-use Rattle·carryless·specs.specs.Lanes.{Each}
-use Rattle·lanes.proofs.Filling.{each-next}
-use Rattle·carryless·proofs.proofs.many.sums.Statement.{statement}
-use Rattle·carryless·proofs.proofs.many.sums.Tie as tie
+use Rattle.block.proofs.Base.{◌-◌, ◌≤◌, ◌≡◌, refl, arith, rules, get_or, length}
+use Rattle.block.specs.Xor.{◌⊕◌}
+use Rattle.lanes.proofs.Needs.{next8}
+use Rattle.carryless.specs.Lanes.{Each}
+use Rattle.lanes.proofs.Filling.{each_next}
+use Rattle.carryless.proofs.many.sums.Statement.{statement}
+use Rattle.carryless.proofs.many.sums.Tie as tie
 
-pub sums-spec : {M : Type 1} → statement M
-sums-spec = tie.close (next8 (tie.spec
-    (λ a b n r₀ g₀ r g. (g ≤ n) × (length r ≡ 16) × Each (λ i. getD a i 0 ⊕ getD b i 0) g r) (λ a b n r₀ g₀ r g. n - g) (λ c. search needs))
+pub sums_spec : {M : Type 1} → statement M
+sums_spec = tie.close (next8 (tie.spec
+    (λ a b n r₀ g₀ r g. (g ≤ n) × (length r ≡ 16) × Each (λ i. get_or a i 0 ⊕ get_or b i 0) g r) (λ a b n r₀ g₀ r g. n - g) (λ c. search rules))
     (omega arith)
     (λ c.
-    let l = c .before .before .before .loop in
-    (omega arith, search needs, each-next _ (l .g) _ (l .r) (omega arith) refl (l .inv .2)))
-    (λ c j h. c .before .loop .inv .2 j (omega arith)))
+    let l = c.loop-g in
+    (omega arith, search rules, each_next _ l.g _ l.r (omega arith) refl l.invariant.2))
+    (λ c j h. c.loop-g.invariant.2 j (omega arith)))

@@ -1,21 +1,21 @@
 -- `cipher::gates::four_bytes` meets its contract: the four lanes of eight words, each doubled onto the one before, are the bytes
 -- that stand in those lanes (`lanes-joined`).
-use Rattle·cipher·proofs.proofs.Names.{needs}
-use Rattle·cipher·proofs.proofs.FourLanes.{lanes-joined}
-use Rattle·cipher·proofs.proofs.gates.four_bytes.Statement.{statement}
-use Rattle·cipher·proofs.proofs.gates.four_bytes.Tie as tie
+use Rattle.cipher.proofs.Names.{rules}
+use Rattle.cipher.proofs.FourLanes.{lanes-joined}
+use Rattle.cipher.proofs.gates.four_bytes.Statement.{statement}
+use Rattle.cipher.proofs.gates.four_bytes.Tie as tie
 
 returns : tie.Need-returns
 returns c =
-    let at-4 = c .before .before .before .before in
-    rw (c .four-lanes8 .ensures .0, c .before .four-lanes7 .ensures .0, c .before .before .four-lanes6 .ensures .0)
-    (rw (c .before .before .before .four-lanes5 .ensures .0, at-4 .four-lanes4 .ensures .0, at-4 .before .four-lanes3 .ensures .0)
-    (rw (at-4 .before .before .four-lanes2 .ensures .0, at-4 .before .before .before .four-lanes .ensures .0) (lanes-joined _)))
+    let at-4 = c.before.before.before.before in
+    rw (c.four_lanes-7.ensures.0, c.four_lanes-6.ensures.0, c.four_lanes-5.ensures.0)
+    (rw (c.four_lanes-4.ensures.0, at-4.four_lanes-3.ensures.0, at-4.four_lanes-2.ensures.0)
+    (rw (at-4.four_lanes.ensures.0, at-4.four_lanes-w.ensures.0) (lanes-joined _)))
 
-pub four-bytes-spec : {M : Type 1} → statement M
-four-bytes-spec = tie.close (tie.spec (λ c. search needs) (λ c κs. search needs) (λ c. search needs) (λ c. search needs)
-    (λ c κs. search needs) (λ c. search needs) (λ c. search needs) (λ c. search needs) (λ c κs. search needs) (λ c. search needs)
-    (λ c. search needs) (λ c. search needs) (λ c κs. search needs) (λ c. search needs) (λ c. search needs) (λ c. search needs)
-    (λ c κs. search needs) (λ c. search needs) (λ c. search needs) (λ c. search needs) (λ c κs. search needs) (λ c. search needs)
-    (λ c. search needs) (λ c. search needs) (λ c κs. search needs) (λ c. search needs) (λ c. search needs) (λ c. search needs)
-    (λ c κs. search needs) (λ c. search needs) (λ c. search needs) returns)
+pub four_bytes_spec : {M : Type 1} → statement M
+four_bytes_spec = tie.close (tie.spec (λ c. search rules) (λ c. search rules) (λ c. search rules) (λ c. search rules)
+    (λ c. search rules) (λ c. search rules) (λ c. search rules) (λ c. search rules) (λ c. search rules) (λ c. search rules)
+    (λ c. search rules) (λ c. search rules) (λ c. search rules) (λ c. search rules) (λ c. search rules) (λ c. search rules)
+    (λ c. search rules) (λ c. search rules) (λ c. search rules) (λ c. search rules) (λ c. search rules) (λ c. search rules)
+    (λ c. search rules) (λ c. search rules) (λ c. search rules) (λ c. search rules) (λ c. search rules) (λ c. search rules)
+    (λ c. search rules) (λ c. search rules) (λ c. search rules) returns)

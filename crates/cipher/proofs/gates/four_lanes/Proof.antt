@@ -1,8 +1,8 @@
 -- `cipher::gates::four_lanes` meets its contract: the mask is a one in each of the four lanes (`masked-lanes`).
-use Rattle·cipher·proofs.proofs.Names.{and-le-r, arith}
-use Rattle·cipher·proofs.proofs.FourLanes.{masked-lanes}
-use Rattle·cipher·proofs.proofs.gates.four_lanes.Statement.{statement}
-use Rattle·cipher·proofs.proofs.gates.four_lanes.Tie as tie
+use Rattle.cipher.proofs.Names.{and_le_r, arith}
+use Rattle.cipher.proofs.FourLanes.{masked-lanes}
+use Rattle.cipher.proofs.gates.four_lanes.Statement.{statement}
+use Rattle.cipher.proofs.gates.four_lanes.Tie as tie
 
-pub four-lanes-spec : {M : Type 1} → statement M
-four-lanes-spec = tie.close (tie.spec (λ c. (masked-lanes (c .args .w), omega (arith, and-le-r (c .args .w) 0x01010101))))
+pub four_lanes_spec : {M : Type 1} → statement M
+four_lanes_spec = tie.close (tie.spec (λ c. (masked-lanes c.args.w, omega (arith, and_le_r c.args.w 0x01010101))))

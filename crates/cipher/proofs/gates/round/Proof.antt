@@ -1,8 +1,8 @@
 -- `cipher::gates::round` meets its contract: it is the definition's round by T.
-use Rattle·cipher·proofs.proofs.Names.{needs}
-use Rattle·cipher·proofs.proofs.gates.round.Statement.{statement}
-use Rattle·cipher·proofs.proofs.gates.round.Tie as tie
+use Rattle.cipher.proofs.Names.{rules}
+use Rattle.cipher.proofs.gates.round.Statement.{statement}
+use Rattle.cipher.proofs.gates.round.Tie as tie
 
-pub round-spec : {M : Type 1} → statement M
-round-spec = tie.close (tie.spec (λ c. search needs) (λ c. search needs) (λ c. search needs) (λ c. search needs) (λ c. search needs)
-    (λ c. search needs) (λ c. search needs) (λ c κs. search needs) (λ c. rw (c .t-trans .ensures)))
+pub round_spec : {M : Type 1} → statement M
+round_spec = tie.close (tie.spec (λ c. search rules) (λ c. search rules) (λ c. search rules) (λ c. search rules) (λ c. search rules)
+    (λ c. search rules) (λ c. search rules) (λ c. search rules) (λ c. rw c.t_trans.ensures))

@@ -1,9 +1,9 @@
 -- `cipher::gates::t_trans` meets its contract: L after tau, as in the definition.
-use Rattle·cipher·proofs.proofs.Names.{T, _∙_, needs}
-use Rattle·cipher·proofs.proofs.gates.t_trans.Statement.{statement}
-use Rattle·cipher·proofs.proofs.gates.t_trans.Tie as tie
+use Rattle.cipher.proofs.Names.{T, ◌∙◌, rules}
+use Rattle.cipher.proofs.gates.t_trans.Statement.{statement}
+use Rattle.cipher.proofs.gates.t_trans.Tie as tie
 
-pub t-trans-spec : {M : Type 1} → statement M
+pub t_trans_spec : {M : Type 1} → statement M
 unfolding T
-t-trans-spec = tie.close (tie.spec (λ c κs. search needs) (λ c κs. search needs)
-    (λ c. c .l-trans .ensures ∙ rw (c .before .tau-trans .ensures)))
+t_trans_spec = tie.close (tie.spec (λ c. search rules) (λ c. search rules)
+    (λ c. c.l_trans.ensures ∙ rw c.tau_trans.ensures))

@@ -1,9 +1,9 @@
 -- `cipher::gates::tau_trans` meets its contract: the S-box in every lane of the shifted word is tau of its bytes (`tau-lanes`).
-use Rattle·cipher·proofs.proofs.Names.{_∙_, needs}
-use Rattle·cipher·proofs.proofs.FourLanes.{tau-lanes}
-use Rattle·cipher·proofs.proofs.gates.tau_trans.Statement.{statement}
-use Rattle·cipher·proofs.proofs.gates.tau_trans.Tie as tie
+use Rattle.cipher.proofs.Names.{◌∙◌, rules}
+use Rattle.cipher.proofs.FourLanes.{tau-lanes}
+use Rattle.cipher.proofs.gates.tau_trans.Statement.{statement}
+use Rattle.cipher.proofs.gates.tau_trans.Tie as tie
 
-pub tau-trans-spec : {M : Type 1} → statement M
-tau-trans-spec = tie.close (tie.spec (λ c κs. search needs) (λ c κs. search needs)
-    (λ c. c .four-bytes .ensures ∙ tau-lanes (c .before .before .args .input) _ (search needs) (c .before .sbox .ensures)))
+pub tau_trans_spec : {M : Type 1} → statement M
+tau_trans_spec = tie.close (tie.spec (λ c. search rules) (λ c. search rules)
+    (λ c. c.four_bytes.ensures ∙ tau-lanes c.args.input _ (search rules) c.sbox.ensures))

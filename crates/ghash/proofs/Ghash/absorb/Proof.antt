@@ -1,17 +1,17 @@
 -- `ghash::Ghash::absorb` meets its contract. The words that are loaded spell the number of the block at the front of `rest`,
--- filled up with zeros (`blockOf-words`), and `step` takes in that number (`absorbed-same`).
-use Rattle·ghash·proofs.proofs.Names.{_∙_, below-each, needs}
-use Rattle·ghash·proofs.proofs.Absorbing.{absorbed-same}
-use Rattle·ghash·proofs.proofs.Blocks.{blockOf-words}
-use Rattle·ghash·proofs.proofs.Ghash.absorb.Statement.{statement}
-use Rattle·ghash·proofs.proofs.Ghash.absorb.Tie as tie
+-- filled up with zeros (`block_of-words`), and `step` takes in that number (`absorbed_same`).
+use Rattle.ghash.proofs.Names.{◌∙◌, below_each, rules}
+use Rattle.ghash.proofs.Absorbing.{absorbed_same}
+use Rattle.ghash.proofs.Blocks.{block_of-words}
+use Rattle.ghash.proofs.Ghash.absorb.Statement.{statement}
+use Rattle.ghash.proofs.Ghash.absorb.Tie as tie
 
-pub absorb-spec : {M : Type 1} → statement M
-absorb-spec =
+pub absorb_spec : {M : Type 1} → statement M
+absorb_spec =
     tie.close
     (tie.spec
-    (λ c κs. search needs) (λ c κs. search needs) (λ c κs. search needs)
+    (λ c. search rules) (λ c. search rules) (λ c. search rules)
     (λ c.
-    let known = c .before .before .before in
-    let bytes = below-each 256 (known .before .args .rest .now) (λ i. known .shared-slice-known .given i .fits) in
-    absorbed-same (c .step .ensures) (c .before .to-u128 .ensures ∙ rw (c .before .before .load-block .ensures) (blockOf-words _ bytes))))
+    let known = c.before.before.before in
+    let bytes = below_each 256 known.args.rest.now (λ i. (known.shared_slice_known-1.given i).fits) in
+    absorbed_same c.step.ensures (c.to_u128-b.ensures ∙ rw c.load_block.ensures (block_of-words _ bytes))))

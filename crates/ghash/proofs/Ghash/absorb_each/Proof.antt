@@ -1,24 +1,24 @@
 -- `ghash::Ghash::absorb_each` meets its contract. The loop's invariant: the first i blocks are taken in, and m is the parts of H. A turn
--- takes in the one that comes next (`absorbed-both`), and at the end these are all (`blocks-upTo`). The measure is how many are to come.
-use Rattle·ghash·proofs.proofs.Names.{Absorbed, PartsOf, _-_, _≡_, _≤_, arith, blockCount, blockNumber, hashFrom, length, needs, upTo}
-use Rattle·ghash·proofs.proofs.Absorbing.{parts-same, absorbed-both}
-use Rattle·ghash·proofs.proofs.Blocks.{blocks-upTo, lent-all}
-use Rattle·ghash·proofs.proofs.Sets.{upTo-next}
-use Rattle·ghash·proofs.proofs.Ghash.absorb_each.Statement.{statement}
-use Rattle·ghash·proofs.proofs.Ghash.absorb_each.Tie as tie
+-- takes in the one that comes next (`absorbed_both`), and at the end these are all (`blocks-up_to`). The measure is how many are to come.
+use Rattle.ghash.proofs.Names.{Absorbed, PartsOf, ◌-◌, ◌≡◌, ◌≤◌, arith, block_count, block_number, hash_from, length, rules, up_to}
+use Rattle.ghash.proofs.Absorbing.{parts_same, absorbed_both}
+use Rattle.ghash.proofs.Blocks.{blocks-up_to, lent_all}
+use Rattle.ghash.proofs.Sets.{up_to-next}
+use Rattle.ghash.proofs.Ghash.absorb_each.Statement.{statement}
+use Rattle.ghash.proofs.Ghash.absorb_each.Tie as tie
 
-pub absorb-each-spec : {M : Type 1} → statement M
-absorb-each-spec =
+pub absorb_each_spec : {M : Type 1} → statement M
+absorb_each_spec =
     tie.close
     (tie.spec
-    (λ bytes n m state₀ i₀ state i. (i ≤ n) × Absorbed state₀ (upTo i (blockNumber bytes)) state × PartsOf (state₀ .h) m)
-    (λ bytes n m state₀ i₀ state i. n - i) (λ c κs. search needs) (λ c κs. search needs) (λ c. unfold upTo hashFrom in search needs)
-    (λ c. search needs) (λ c. search needs) (λ c. search needs) (λ c. search needs) (λ c κs. search (needs, parts-same))
-    (λ c. search needs) (λ c. search needs)
+    (λ bytes n m state₀ i₀ state i. (i ≤ n) × Absorbed state₀ (up_to i (block_number bytes)) state × PartsOf state₀.h m)
+    (λ bytes n m state₀ i₀ state i. n - i) (λ c. search rules) (λ c. search rules) (λ c. unfold up_to hash_from in search rules)
+    (λ c. search rules) (λ c. search rules) (λ c. search rules) (λ c. search rules) (λ c. search (rules, parts_same))
+    (λ c. search rules) (λ c. search rules)
     (λ c.
-    let turn = c .before .before .before .before .loop in
-    let next = rw lent-all at (c .absorb .ensures) in
-    (omega arith, rw (← upTo-next) (absorbed-both _ _ _ _ _ (turn .inv .1) next), turn .inv .2))
+    let turn = c.loop-i in
+    let next = rw lent_all at c.absorb-state.ensures in
+    (omega arith, rw (← up_to-next) (absorbed_both _ _ _ _ _ turn.invariant.1 next), turn.invariant.2))
     (λ c.
-    let all : c .before .loop .i ≡ blockCount (length (c .before .before .before .before .before .args .bytes .now)) = omega arith in
-    rw (blocks-upTo, ← all) (c .before .loop .inv .1)))
+    let all : c.loop-i.i ≡ block_count (length c.args.bytes.now) = omega arith in
+    rw (blocks-up_to, ← all) c.loop-i.invariant.1))

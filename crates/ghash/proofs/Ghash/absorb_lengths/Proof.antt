@@ -1,11 +1,11 @@
 -- `ghash::Ghash::absorb_lengths` meets its contract. A length that can be hashed fits 64 bits when it is counted in bits, so
--- the two halves are the length block (`lengthBlock-whole`), which `step` takes in (`absorbed-same`).
-use Rattle·ghash·proofs.proofs.Names.{needs}
-use Rattle·ghash·proofs.proofs.Absorbing.{absorbed-same}
-use Rattle·ghash·proofs.proofs.Lengths.{lengthBlock-whole}
-use Rattle·ghash·proofs.proofs.Ghash.absorb_lengths.Statement.{statement}
-use Rattle·ghash·proofs.proofs.Ghash.absorb_lengths.Tie as tie
+-- the two halves are the length block (`length_block-whole`), which `step` takes in (`absorbed_same`).
+use Rattle.ghash.proofs.Names.{rules}
+use Rattle.ghash.proofs.Absorbing.{absorbed_same}
+use Rattle.ghash.proofs.Lengths.{length_block-whole}
+use Rattle.ghash.proofs.Ghash.absorb_lengths.Statement.{statement}
+use Rattle.ghash.proofs.Ghash.absorb_lengths.Tie as tie
 
-pub absorb-lengths-spec : {M : Type 1} → statement M
-absorb-lengths-spec = tie.close (tie.spec (λ c. search needs) (λ c. search needs) (λ c κs. search needs) (λ c κs. search needs)
-    (λ c. search (needs, absorbed-same, lengthBlock-whole)))
+pub absorb_lengths_spec : {M : Type 1} → statement M
+absorb_lengths_spec = tie.close (tie.spec (λ c. search rules) (λ c. search rules) (λ c. search rules) (λ c. search rules)
+    (λ c. search (rules, absorbed_same, length_block-whole)))

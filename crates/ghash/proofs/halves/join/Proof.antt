@@ -1,8 +1,8 @@
 -- `ghash::halves::join` meets its contract: H to the count is what the first hash counts for.
-use Rattle·ghash·proofs.proofs.Names.{_∙_, joined, needs}
-use Rattle·ghash·proofs.proofs.halves.join.Statement.{statement}
-use Rattle·ghash·proofs.proofs.halves.join.Tie as tie
+use Rattle.ghash.proofs.Names.{◌∙◌, joined, rules}
+use Rattle.ghash.proofs.halves.join.Statement.{statement}
+use Rattle.ghash.proofs.halves.join.Tie as tie
 
-pub join-spec : {M : Type 1} → statement M
-join-spec = tie.close (tie.spec (λ c κs. search needs) (λ c κs. search needs)
-    (λ c. unfold joined in c .after .ensures ∙ rw (c .before .power .ensures)))
+pub join_spec : {M : Type 1} → statement M
+join_spec = tie.close (tie.spec (λ c. search rules) (λ c. search rules)
+    (λ c. unfold joined in c.after.ensures ∙ rw c.power.ensures))

@@ -1,19 +1,19 @@
 -- `ghash::interleaved::absorb_hashes` meets its contract. The loop's invariant: the first k hashes are taken in, and m is the parts of H. A
--- turn takes in the one that comes next (`absorbed-both`).
-use Rattle·ghash·proofs.proofs.Names.{Absorbed, PartsOf, _-_, _≡_, _≤_, arith, hashFrom, lane, needs, upTo}
-use Rattle·ghash·proofs.proofs.Absorbing.{parts-same, absorbed-both}
-use Rattle·ghash·proofs.proofs.Sets.{upTo-next}
-use Rattle·ghash·proofs.proofs.interleaved.absorb_hashes.Statement.{statement}
-use Rattle·ghash·proofs.proofs.interleaved.absorb_hashes.Tie as tie
+-- turn takes in the one that comes next (`absorbed_both`).
+use Rattle.ghash.proofs.Names.{Absorbed, PartsOf, ◌-◌, ◌≡◌, ◌≤◌, arith, hash_from, lane, rules, up_to}
+use Rattle.ghash.proofs.Absorbing.{parts_same, absorbed_both}
+use Rattle.ghash.proofs.Sets.{up_to-next}
+use Rattle.ghash.proofs.interleaved.absorb_hashes.Statement.{statement}
+use Rattle.ghash.proofs.interleaved.absorb_hashes.Tie as tie
 
-pub absorb-hashes-spec : {M : Type 1} → statement M
-absorb-hashes-spec =
+pub absorb_hashes_spec : {M : Type 1} → statement M
+absorb_hashes_spec =
     tie.close
     (tie.spec
-    (λ n high low m state₀ k₀ state k. (k ≤ n) × Absorbed state₀ (upTo k (lane high low)) state × PartsOf (state₀ .h) m)
-    (λ n high low m state₀ k₀ state k. n - k) (λ c κs. search needs) (λ c. unfold upTo hashFrom in search needs) (λ c. search needs)
-    (λ c. search needs) (λ c. search needs) (λ c. search needs) (λ c κs. search (needs, parts-same)) (λ c. search needs) (λ c. search needs)
+    (λ n high low m state₀ k₀ state k. (k ≤ n) × Absorbed state₀ (up_to k (lane high low)) state × PartsOf state₀.h m)
+    (λ n high low m state₀ k₀ state k. n - k) (λ c. search rules) (λ c. unfold up_to hash_from in search rules) (λ c. search rules)
+    (λ c. search rules) (λ c. search rules) (λ c. search rules) (λ c. search (rules, parts_same)) (λ c. search rules) (λ c. search rules)
     (λ c.
-    let turn = c .before .before .before .before .before .loop in
-    (omega arith, rw (← upTo-next) (absorbed-both _ _ _ _ _ (turn .inv .1) (c .step .ensures)), turn .inv .2))
-    (λ c. let e : c .before .loop .k ≡ c .before .before .before .args .n = omega arith in rw e at (c .before .loop .inv .1)))
+    let turn = c.loop-k in
+    (omega arith, rw (← up_to-next) (absorbed_both _ _ _ _ _ turn.invariant.1 c.step-state.ensures), turn.invariant.2))
+    (λ c. let e : c.loop-k.k ≡ c.args.n = omega arith in rw e at c.loop-k.invariant.1))

@@ -1,22 +1,28 @@
 -- `again::differs` meets its contract: each return is the definition, by the tests that led there.
-use Rattle·journal·proofs.proofs.Names.{differsFrom, eq-eqb, front, ne-eqb, needs}
-use Rattle·journal·proofs.proofs.again.differs.Statement.{statement}
-use Rattle·journal·proofs.proofs.again.differs.Tie as tie
+use Rattle.journal.proofs.Names.{differs_from, eq-eqb, front, ne_eqb, rules}
+use Rattle.journal.proofs.again.differs.Statement.{statement}
+use Rattle.journal.proofs.again.differs.Tie as tie
 
-pub differs-spec : {M : Type 1} → statement M
-differs-spec =
-    tie.close (tie.spec (λ c κs. search needs) (λ c. search needs)
-    (λ c. unfold differsFrom front in rw (← c .before .before .number .ensures, ne-eqb _ _ (c .if1 .taken))) (λ c κs. search needs)
+pub differs_spec : {M : Type 1} → statement M
+differs_spec =
+    tie.close (tie.spec (λ c. search rules) (λ c. search rules)
+    (λ c. unfold differs_from front in rw (← c.number.ensures, ne_eqb _ _ c.if-number-answered.true)) (λ c. search rules)
     (λ c.
-    let o = c .before .before in
-    let n = o .before in
-    unfold differsFrom front in
-    rw (← n .before .before .number .ensures, eq-eqb _ _ (n .if1 .left), ← o .output .ensures, ne-eqb _ _ (c .if2 .taken)))
-    (λ c κs. search needs)
+    let o = c.before.before in
+    let n = o.before in
+    unfold differs_from front in
+    rw (← n.number.ensures, eq-eqb _ _ n.if-number-answered.false, ← o.output-recorded.ensures, ne_eqb _ _ c.if-recorded-answered.true))
+    (λ c. search rules)
     (λ c.
-    let l = c .before in
-    let o = l .before .before in
-    let n = o .before in
-    let told = n .before .before .number .ensures in
-    unfold differsFrom front in
-    rw (← told, eq-eqb _ _ (n .if1 .left), ← o .output .ensures, eq-eqb _ _ (l .if2 .left), ← c .alike .ensures)))
+    let l = c.before in
+    let o = l.before.before in
+    let n = o.before in
+    let told = n.number.ensures in
+    unfold differs_from front in
+    rw (
+      ← told,
+      eq-eqb _ _ n.if-number-answered.false,
+      ← o.output-recorded.ensures,
+      eq-eqb _ _ l.if-recorded-answered.false,
+      ← c.alike.ensures,
+    )))

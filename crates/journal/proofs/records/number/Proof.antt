@@ -1,7 +1,7 @@
 -- `records::number` meets its contract.
-use Rattle·journal·proofs.proofs.Names.{needs}
-use Rattle·journal·proofs.proofs.records.number.Statement.{statement}
-use Rattle·journal·proofs.proofs.records.number.Tie as tie
+use Rattle.journal.proofs.Names.{rules}
+use Rattle.journal.proofs.records.number.Statement.{statement}
+use Rattle.journal.proofs.records.number.Tie as tie
 
-pub number-spec : {M : Type 1} → statement M
-number-spec = tie.close (tie.spec (λ c κs. search needs) (λ c. search needs) (λ c. cc))
+pub number_spec : {M : Type 1} → statement M
+number_spec = tie.close (tie.spec (λ c. search rules) (λ c. search rules) (λ c. cc))

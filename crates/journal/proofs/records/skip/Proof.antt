@@ -1,9 +1,9 @@
 -- `records::skip` meets its contract: what is lent is the end of the list.
-use Rattle·journal·proofs.proofs.Names.{needs, now, tail-is}
-use Rattle·journal·proofs.proofs.records.skip.Statement.{statement}
-use Rattle·journal·proofs.proofs.records.skip.Tie as tie
+use Rattle.journal.proofs.Names.{rules, tail_is}
+use Rattle.journal.proofs.records.skip.Statement.{statement}
+use Rattle.journal.proofs.records.skip.Tie as tie
 
-pub skip-spec : {M : Type 1} → statement M
-skip-spec =
-    tie.close (tie.spec (λ c. search needs) (λ c. search needs) (λ c. search needs)
-    (λ c. let a = c .before .args in tail-is (now (a .s)) (a .n)))
+pub skip_spec : {M : Type 1} → statement M
+skip_spec =
+    tie.close (tie.spec (λ c. search rules) (λ c. search rules) (λ c. search rules)
+    (λ c. let a = c.args in tail_is (a.s.now) a.n))

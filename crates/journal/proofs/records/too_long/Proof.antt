@@ -1,8 +1,8 @@
 -- `records::too_long` meets its contract: the lengths are those of the record's parts.
-use Rattle·journal·proofs.proofs.Names.{front, needs}
-use Rattle·journal·proofs.proofs.records.too_long.Statement.{statement}
-use Rattle·journal·proofs.proofs.records.too_long.Tie as tie
+use Rattle.journal.proofs.Names.{front, rules}
+use Rattle.journal.proofs.records.too_long.Statement.{statement}
+use Rattle.journal.proofs.records.too_long.Tie as tie
 
-pub too-long-spec : {M : Type 1} → statement M
-too-long-spec = tie.close (tie.spec (λ c κs. search needs) (λ c κs. search needs) (λ c κs. search needs) (λ c κs. search needs)
-    (λ c κs. search needs) (λ c. unfold front in cc))
+pub too_long_spec : {M : Type 1} → statement M
+too_long_spec = tie.close (tie.spec (λ c. search rules) (λ c. search rules) (λ c. search rules) (λ c. search rules)
+    (λ c. search rules) (λ c. unfold front in cc))

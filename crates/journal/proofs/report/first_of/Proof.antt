@@ -1,7 +1,7 @@
 -- `report::first_of` meets its contract, by the tests that led there.
-use Rattle·journal·proofs.proofs.report.first_of.Statement.{statement}
-use Rattle·journal·proofs.proofs.report.first_of.Tie as tie
+use Rattle.journal.proofs.report.first_of.Statement.{statement}
+use Rattle.journal.proofs.report.first_of.Tie as tie
 
-pub first-of-spec : {M : Type 1} → statement M
-first-of-spec = tie.close (tie.spec (λ c. rw (c .if1 .taken)) (λ c. rw (c .before .if1 .left, c .if2 .taken))
-    (λ c. rw (c .before .if1 .left, c .if2 .left)))
+pub first_of_spec : {M : Type 1} → statement M
+first_of_spec = tie.close (tie.spec (λ c. rw c.if-first.true) (λ c. rw (c.if-first.false, c.if-differs.true))
+    (λ c. rw (c.if-first.false, c.if-differs.false)))

@@ -1,8 +1,8 @@
 -- `luossavin::edition::luossavin_edition_open` meets its contract: the single call under the label of the job and the edition.
-use Rattle·block.proofs.Base.{needs}
-use Rattle·luossavin·proofs.proofs.edition.luossavin_edition_open.Statement.{statement}
-use Rattle·luossavin·proofs.proofs.edition.luossavin_edition_open.Tie as tie
+use Rattle.block.proofs.Base.{rules}
+use Rattle.luossavin.proofs.edition.luossavin_edition_open.Statement.{statement}
+use Rattle.luossavin.proofs.edition.luossavin_edition_open.Tie as tie
 
-pub luossavin-edition-open-spec : {M : Type 1} → statement M
-luossavin-edition-open-spec = tie.close (tie.spec (λ c κs. search needs) (λ c. search needs) (λ c κs. search needs) (λ c. search needs)
-    (λ c. rw (← c .before .before .before .before .before .label .ensures) (c .before .before .mode-call .ensures)))
+pub luossavin_edition_open_spec : {M : Type 1} → statement M
+luossavin_edition_open_spec = tie.close (tie.spec (λ c. search rules) (λ c. search rules) (λ c. search rules) (λ c. search rules)
+    (λ c. rw (← c.label-label.ensures) c.mode_call.ensures))

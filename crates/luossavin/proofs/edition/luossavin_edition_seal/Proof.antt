@@ -1,8 +1,8 @@
 -- `luossavin::edition::luossavin_edition_seal` meets its contract: the single call under the label of the job and the edition.
-use Rattle·block.proofs.Base.{needs}
-use Rattle·luossavin·proofs.proofs.edition.luossavin_edition_seal.Statement.{statement}
-use Rattle·luossavin·proofs.proofs.edition.luossavin_edition_seal.Tie as tie
+use Rattle.block.proofs.Base.{rules}
+use Rattle.luossavin.proofs.edition.luossavin_edition_seal.Statement.{statement}
+use Rattle.luossavin.proofs.edition.luossavin_edition_seal.Tie as tie
 
-pub luossavin-edition-seal-spec : {M : Type 1} → statement M
-luossavin-edition-seal-spec = tie.close (tie.spec (λ c κs. search needs) (λ c. search needs) (λ c κs. search needs) (λ c. search needs)
-    (λ c. rw (← c .before .before .before .before .before .label .ensures) (c .before .before .mode-call .ensures)))
+pub luossavin_edition_seal_spec : {M : Type 1} → statement M
+luossavin_edition_seal_spec = tie.close (tie.spec (λ c. search rules) (λ c. search rules) (λ c. search rules) (λ c. search rules)
+    (λ c. rw (← c.label-label.ensures) c.mode_call.ensures))

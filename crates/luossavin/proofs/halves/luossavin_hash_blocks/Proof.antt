@@ -1,11 +1,11 @@
 -- `luossavin::halves::luossavin_hash_blocks` meets its contract: the number that the call of `ghash` gives, in its halves.
-use Rattle·luossavin·specs.specs.Halves.{hostHashBlocks}
-use Rattle·luossavin·proofs.proofs.Values.{of-value}
-use Rattle·block.proofs.Base.{needs}
-use Rattle·luossavin·proofs.proofs.halves.luossavin_hash_blocks.Statement.{statement}
-use Rattle·luossavin·proofs.proofs.halves.luossavin_hash_blocks.Tie as tie
+use Rattle.luossavin.specs.Halves.{host_hash_blocks}
+use Rattle.luossavin.proofs.Values.{of-value}
+use Rattle.block.proofs.Base.{rules}
+use Rattle.luossavin.proofs.halves.luossavin_hash_blocks.Statement.{statement}
+use Rattle.luossavin.proofs.halves.luossavin_hash_blocks.Tie as tie
 
-pub luossavin-hash-blocks-spec : {M : Type 1} → statement M
-unfolding hostHashBlocks
-luossavin-hash-blocks-spec =
-    tie.close (tie.spec (λ c κs. search needs) (λ c. of-value (c .hash-blocks .result) (search needs) (c .hash-blocks .ensures)))
+pub luossavin_hash_blocks_spec : {M : Type 1} → statement M
+unfolding host_hash_blocks
+luossavin_hash_blocks_spec =
+    tie.close (tie.spec (λ c. search rules) (λ c. of-value c.hash_blocks.result (search rules) c.hash_blocks.ensures))

@@ -1,9 +1,9 @@
 -- `luossavin::in_pieces::luossavin_ctr_piece` meets its contract: it hands on a piece.
-use Rattle·luossavin·proofs.proofs.Steps.{handed-on}
-use Rattle·block.proofs.Base.{needs}
-use Rattle·luossavin·proofs.proofs.in_pieces.luossavin_ctr_piece.Statement.{statement}
-use Rattle·luossavin·proofs.proofs.in_pieces.luossavin_ctr_piece.Tie as tie
+use Rattle.luossavin.proofs.Steps.{handed_on}
+use Rattle.block.proofs.Base.{rules}
+use Rattle.luossavin.proofs.in_pieces.luossavin_ctr_piece.Statement.{statement}
+use Rattle.luossavin.proofs.in_pieces.luossavin_ctr_piece.Tie as tie
 
-pub luossavin-ctr-piece-spec : {M : Type 1} → statement M
-luossavin-ctr-piece-spec = tie.close (tie.spec (λ c κs. search needs) (λ c κs. search needs) (λ c. search needs)
-    (λ c. handed-on (c .ctr-step .ensures) (c .before .before .before .piece .ensures)))
+pub luossavin_ctr_piece_spec : {M : Type 1} → statement M
+luossavin_ctr_piece_spec = tie.close (tie.spec (λ c. search rules) (λ c. search rules) (λ c. search rules)
+    (λ c. handed_on c.ctr_step.ensures c.piece.ensures))

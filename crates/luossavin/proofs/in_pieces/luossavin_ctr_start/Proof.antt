@@ -1,17 +1,17 @@
 -- `luossavin::in_pieces::luossavin_ctr_start` meets its contract: it hands on a start on the host's record, by its direction.
-use Rattle·luossavin·specs.specs.InPieces.{hostCtrStart}
-use Rattle·luossavin·proofs.proofs.Steps.{handed-on}
-use Rattle·block.proofs.Base.{needs}
-use Rattle·luossavin·proofs.proofs.in_pieces.luossavin_ctr_start.Statement.{statement}
-use Rattle·luossavin·proofs.proofs.in_pieces.luossavin_ctr_start.Tie as tie
+use Rattle.luossavin.specs.InPieces.{host_ctr_start}
+use Rattle.luossavin.proofs.Steps.{handed_on}
+use Rattle.block.proofs.Base.{rules}
+use Rattle.luossavin.proofs.in_pieces.luossavin_ctr_start.Statement.{statement}
+use Rattle.luossavin.proofs.in_pieces.luossavin_ctr_start.Tie as tie
 
 returns : tie.Need-returns
-unfolding hostCtrStart
+unfolding host_ctr_start
 returns c =
-    let at-key = c .before .before in
-    handed-on (c .ctr-step .ensures)
-    (rw (← at-key .cipher-of .ensures, ← at-key .before .direction-of .ensures) (c .before .start .ensures))
+    let at_key = c.before.before in
+    handed_on c.ctr_step.ensures
+    (rw (← at_key.cipher_of.ensures, ← at_key.direction_of.ensures) c.start.ensures)
 
-pub luossavin-ctr-start-spec : {M : Type 1} → statement M
-luossavin-ctr-start-spec =
-    tie.close (tie.spec (λ c κs. search needs) (λ c κs. search needs) (λ c κs. search needs) (λ c κs. search needs) returns)
+pub luossavin_ctr_start_spec : {M : Type 1} → statement M
+luossavin_ctr_start_spec =
+    tie.close (tie.spec (λ c. search rules) (λ c. search rules) (λ c. search rules) (λ c. search rules) returns)

@@ -1,9 +1,9 @@
 -- `luossavin::in_pieces::luossavin_opens_end` meets its contract: it hands on the end.
-use Rattle·luossavin·proofs.proofs.Steps.{handed-on}
-use Rattle·block.proofs.Base.{needs}
-use Rattle·luossavin·proofs.proofs.in_pieces.luossavin_opens_end.Statement.{statement}
-use Rattle·luossavin·proofs.proofs.in_pieces.luossavin_opens_end.Tie as tie
+use Rattle.luossavin.proofs.Steps.{handed_on}
+use Rattle.block.proofs.Base.{rules}
+use Rattle.luossavin.proofs.in_pieces.luossavin_opens_end.Statement.{statement}
+use Rattle.luossavin.proofs.in_pieces.luossavin_opens_end.Tie as tie
 
-pub luossavin-opens-end-spec : {M : Type 1} → statement M
-luossavin-opens-end-spec = tie.close (tie.spec (λ c κs. search needs) (λ c κs. search needs)
-    (λ c. handed-on (c .opens-step .ensures) (c .before .end .ensures)))
+pub luossavin_opens_end_spec : {M : Type 1} → statement M
+luossavin_opens_end_spec = tie.close (tie.spec (λ c. search rules) (λ c. search rules)
+    (λ c. handed_on c.opens_step.ensures c.end.ensures))

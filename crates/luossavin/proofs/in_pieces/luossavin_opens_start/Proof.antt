@@ -1,11 +1,11 @@
 -- `luossavin::in_pieces::luossavin_opens_start` meets its contract: it hands on a start on the host's record.
-use Rattle·luossavin·specs.specs.InPieces.{hostOpensStart}
-use Rattle·luossavin·proofs.proofs.Steps.{handed-on}
-use Rattle·block.proofs.Base.{needs}
-use Rattle·luossavin·proofs.proofs.in_pieces.luossavin_opens_start.Statement.{statement}
-use Rattle·luossavin·proofs.proofs.in_pieces.luossavin_opens_start.Tie as tie
+use Rattle.luossavin.specs.InPieces.{host_opens_start}
+use Rattle.luossavin.proofs.Steps.{handed_on}
+use Rattle.block.proofs.Base.{rules}
+use Rattle.luossavin.proofs.in_pieces.luossavin_opens_start.Statement.{statement}
+use Rattle.luossavin.proofs.in_pieces.luossavin_opens_start.Tie as tie
 
-pub luossavin-opens-start-spec : {M : Type 1} → statement M
-unfolding hostOpensStart
-luossavin-opens-start-spec = tie.close (tie.spec (λ c κs. search needs) (λ c κs. search needs) (λ c κs. search needs)
-    (λ c. handed-on (c .opens-step .ensures) (rw (← c .before .before .cipher-of .ensures) (c .before .start .ensures))))
+pub luossavin_opens_start_spec : {M : Type 1} → statement M
+unfolding host_opens_start
+luossavin_opens_start_spec = tie.close (tie.spec (λ c. search rules) (λ c. search rules) (λ c. search rules)
+    (λ c. handed_on c.opens_step.ensures (rw (← c.cipher_of.ensures) c.start.ensures)))

@@ -1,10 +1,10 @@
 -- `luossavin::journals::at_most` meets its contract: the number, or the most that there is room for.
-use Rattle·block.proofs.Base.{needs, le-ltb, lt-ltb}
-use Rattle·luossavin·specs.specs.Recording.{atMost}
-use Rattle·luossavin·proofs.proofs.journals.at_most.Statement.{statement}
-use Rattle·luossavin·proofs.proofs.journals.at_most.Tie as tie
+use Rattle.block.proofs.Base.{rules, le-ltb, lt-ltb}
+use Rattle.luossavin.specs.Recording.{at_most}
+use Rattle.luossavin.proofs.journals.at_most.Statement.{statement}
+use Rattle.luossavin.proofs.journals.at_most.Tie as tie
 
-pub at-most-spec : {M : Type 1} → statement M
-unfolding atMost
-at-most-spec =
-    tie.close (tie.spec (λ c. (rw (lt-ltb _ _ (c .if1 .taken)), search needs)) (λ c. (rw (le-ltb _ _ (c .if1 .left)), search needs)))
+pub at_most_spec : {M : Type 1} → statement M
+unfolding at_most
+at_most_spec =
+    tie.close (tie.spec (λ c. (rw (lt-ltb _ _ c.if-n-most.true), search rules)) (λ c. (rw (le-ltb _ _ c.if-n-most.false), search rules)))

@@ -1,10 +1,10 @@
 -- `luossavin::journals::luossavin_replay` meets its contract: it tells what replay gives on the host's records.
-use Rattle·block.proofs.Base.{_∙_, ap, needs}
-use Rattle·luossavin·specs.specs.Journals.{toldOf, hostReplay}
-use Rattle·luossavin·proofs.proofs.journals.luossavin_replay.Statement.{statement}
-use Rattle·luossavin·proofs.proofs.journals.luossavin_replay.Tie as tie
+use Rattle.block.proofs.Base.{◌∙◌, ap, rules}
+use Rattle.luossavin.specs.Journals.{told_of, host_replay}
+use Rattle.luossavin.proofs.journals.luossavin_replay.Statement.{statement}
+use Rattle.luossavin.proofs.journals.luossavin_replay.Tie as tie
 
-pub luossavin-replay-spec : {M : Type 1} → statement M
-unfolding hostReplay
-luossavin-replay-spec = tie.close (tie.spec (λ c κs. search needs) (λ c κs. search needs) (λ c κs. search needs)
-    (λ c. rw (← c .before .before .keys-of .ensures) (c .report-replayed .ensures ∙ ap toldOf (c .before .replay .ensures))))
+pub luossavin_replay_spec : {M : Type 1} → statement M
+unfolding host_replay
+luossavin_replay_spec = tie.close (tie.spec (λ c. search rules) (λ c. search rules) (λ c. search rules)
+    (λ c. rw (← c.keys_of.ensures) (c.report_replayed.ensures ∙ ap told_of c.replay.ensures)))

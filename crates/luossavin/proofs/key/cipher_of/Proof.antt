@@ -1,9 +1,9 @@
 -- `luossavin::key::cipher_of` meets its contract: every field is the definition's.
-use Rattle·luossavin·specs.specs.Key.{cipherIn}
-use Rattle·block.proofs.Base.{needs}
-use Rattle·luossavin·proofs.proofs.key.cipher_of.Statement.{statement}
-use Rattle·luossavin·proofs.proofs.key.cipher_of.Tie as tie
+use Rattle.luossavin.specs.Key.{cipher_in}
+use Rattle.block.proofs.Base.{rules}
+use Rattle.luossavin.proofs.key.cipher_of.Statement.{statement}
+use Rattle.luossavin.proofs.key.cipher_of.Tie as tie
 
-pub cipher-of-spec : {M : Type 1} → statement M
-unfolding cipherIn
-cipher-of-spec = tie.close (tie.spec (λ c κs. search needs) (λ c. rw (c .before .key-answer-of .ensures)))
+pub cipher_of_spec : {M : Type 1} → statement M
+unfolding cipher_in
+cipher_of_spec = tie.close (tie.spec (λ c. search rules) (λ c. rw c.key_answer_of.ensures))

@@ -1,15 +1,15 @@
 -- `luossavin::key::luossavin_key_new` meets its contract: it hands out the record that setting up the key gives.
-use Rattle·luossavin·specs.specs.Key.{keyOf, hostKeyNew}
-use Rattle·luossavin·proofs.proofs.Marks.{mark-byte}
-use Rattle·block.proofs.Base.{needs}
-use Rattle·luossavin·proofs.proofs.key.luossavin_key_new.Statement.{statement}
-use Rattle·luossavin·proofs.proofs.key.luossavin_key_new.Tie as tie
+use Rattle.luossavin.specs.Key.{key_of, host_key_new}
+use Rattle.luossavin.proofs.Marks.{mark-byte}
+use Rattle.block.proofs.Base.{rules}
+use Rattle.luossavin.proofs.key.luossavin_key_new.Statement.{statement}
+use Rattle.luossavin.proofs.key.luossavin_key_new.Tie as tie
 
 returns : tie.Need-returns
-unfolding hostKeyNew keyOf
+unfolding host_key_new key_of
 returns c =
-    let made = c .before .before .before .new in
-    rw (← made .ensures, c .before .answer-number .ensures, mark-byte (made .result .retired))
+    let made = c.new-cipher in
+    rw (← made.ensures, c.answer_number.ensures, mark-byte made.result.retired)
 
-pub luossavin-key-new-spec : {M : Type 1} → statement M
-luossavin-key-new-spec = tie.close (tie.spec (λ c κs. search needs) (λ c κs. search needs) (λ c. search needs) returns)
+pub luossavin_key_new_spec : {M : Type 1} → statement M
+luossavin_key_new_spec = tie.close (tie.spec (λ c. search rules) (λ c. search rules) (λ c. search rules) returns)

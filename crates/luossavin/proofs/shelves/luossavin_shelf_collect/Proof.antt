@@ -1,8 +1,8 @@
 -- `luossavin::shelves::luossavin_shelf_collect` meets its contract: it reports what collecting leaves.
-use Rattle·block.proofs.Base.{needs}
-use Rattle·luossavin·proofs.proofs.shelves.luossavin_shelf_collect.Statement.{statement}
-use Rattle·luossavin·proofs.proofs.shelves.luossavin_shelf_collect.Tie as tie
+use Rattle.block.proofs.Base.{rules}
+use Rattle.luossavin.proofs.shelves.luossavin_shelf_collect.Statement.{statement}
+use Rattle.luossavin.proofs.shelves.luossavin_shelf_collect.Tie as tie
 
-pub luossavin-shelf-collect-spec : {M : Type 1} → statement M
-luossavin-shelf-collect-spec = tie.close (tie.spec (λ c κs. search needs) (λ c κs. search needs) (λ c. search needs)
-    (λ c. rw (c .report-kept .ensures .0, c .report-kept .ensures .1) (c .before .before .before .collect .ensures)))
+pub luossavin_shelf_collect_spec : {M : Type 1} → statement M
+luossavin_shelf_collect_spec = tie.close (tie.spec (λ c. search rules) (λ c. search rules) (λ c. search rules)
+    (λ c. rw (c.report_kept.ensures.0, c.report_kept.ensures.1) c.collect.ensures))

@@ -1,17 +1,17 @@
 -- `luossavin::workers::luossavin_ctr_range` meets its contract: it reports the range on the host's record, by its direction.
-use Rattle·luossavin·specs.specs.Ranges.{hostCtrRange}
-use Rattle·luossavin·proofs.proofs.Steps.{told}
-use Rattle·block.proofs.Base.{needs}
-use Rattle·luossavin·proofs.proofs.workers.luossavin_ctr_range.Statement.{statement}
-use Rattle·luossavin·proofs.proofs.workers.luossavin_ctr_range.Tie as tie
+use Rattle.luossavin.specs.Ranges.{host_ctr_range}
+use Rattle.luossavin.proofs.Steps.{told}
+use Rattle.block.proofs.Base.{rules}
+use Rattle.luossavin.proofs.workers.luossavin_ctr_range.Statement.{statement}
+use Rattle.luossavin.proofs.workers.luossavin_ctr_range.Tie as tie
 
 returns : tie.Need-returns
-unfolding hostCtrRange
+unfolding host_ctr_range
 returns c =
-    let at-work = c .before .before .before in
-    let at-way = at-work .before .before in
-    told (c .report .ensures) (rw (← at-way .direction-of .ensures, ← at-way .before .cipher-of .ensures) (at-work .range .ensures))
+    let at-work = c.before.before.before in
+    let at-way = at-work.before.before in
+    told c.report.ensures (rw (← at-way.direction_of.ensures, ← at-way.cipher_of.ensures) at-work.range.ensures)
 
-pub luossavin-ctr-range-spec : {M : Type 1} → statement M
-luossavin-ctr-range-spec = tie.close (tie.spec (λ c κs. search needs) (λ c κs. search needs) (λ c κs. search needs) (λ c κs. search needs)
-    (λ c. search needs) returns)
+pub luossavin_ctr_range_spec : {M : Type 1} → statement M
+luossavin_ctr_range_spec = tie.close (tie.spec (λ c. search rules) (λ c. search rules) (λ c. search rules) (λ c. search rules)
+    (λ c. search rules) returns)

@@ -1,10 +1,10 @@
 -- `pieces::checks::running` meets its contract: what the state stands at, and then the two lengths.
-use Rattle·pieces·proofs.proofs.Names.{needs, running}
-use Rattle·pieces·proofs.proofs.checks.running.Statement.{statement}
-use Rattle·pieces·proofs.proofs.checks.running.Tie as tie
+use Rattle.pieces.proofs.Names.{rules, running}
+use Rattle.pieces.proofs.checks.running.Statement.{statement}
+use Rattle.pieces.proofs.checks.running.Tie as tie
 
-pub running-spec : {M : Type 1} → statement M
+pub running_spec : {M : Type 1} → statement M
 unfolding running
-running-spec = tie.close (tie.spec (λ c. search needs) (λ c. search needs) (λ c. search needs) (λ c. search needs) (λ c. search needs)
-    (λ c. let at-text = c .before .before .before in rw (c .and-then .ensures, c .before .refuse2 .ensures)
-    (rw (c .before .before .standing .ensures, at-text .refuse .ensures, at-text .before .past-limit .ensures))))
+running_spec = tie.close (tie.spec (λ c. search rules) (λ c. search rules) (λ c. search rules) (λ c. search rules) (λ c. search rules)
+    (λ c. rw (c.and_then.ensures, c.refuse.ensures)
+    (rw (c.standing.ensures, c.refuse-text.ensures, c.past_limit.ensures))))

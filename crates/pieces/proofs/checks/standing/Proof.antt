@@ -1,10 +1,10 @@
 -- `pieces::checks::standing` meets its contract: each return is the definition, by the tests that led there.
-use Rattle·pieces·proofs.proofs.Names.{eq-eqb, ne-eqb, needs, standing}
-use Rattle·pieces·proofs.proofs.checks.standing.Statement.{statement}
-use Rattle·pieces·proofs.proofs.checks.standing.Tie as tie
+use Rattle.pieces.proofs.Names.{eq-eqb, ne_eqb, rules, standing}
+use Rattle.pieces.proofs.checks.standing.Statement.{statement}
+use Rattle.pieces.proofs.checks.standing.Tie as tie
 
-pub standing-spec : {M : Type 1} → statement M
+pub standing_spec : {M : Type 1} → statement M
 unfolding standing
-standing-spec = tie.close (tie.spec (λ c. search (needs, eq-eqb, ne-eqb)) (λ c. search (needs, eq-eqb, ne-eqb))
-    (λ c. search (needs, eq-eqb, ne-eqb)) (λ c. search (needs, eq-eqb, ne-eqb)) (λ c. search (needs, eq-eqb, ne-eqb))
-    (λ c. search (needs, eq-eqb, ne-eqb)) (λ c. search (needs, eq-eqb, ne-eqb)))
+standing_spec = tie.close (tie.spec (λ c. search (rules, eq-eqb, ne_eqb)) (λ c. search (rules, eq-eqb, ne_eqb))
+    (λ c. search (rules, eq-eqb, ne_eqb)) (λ c. search (rules, eq-eqb, ne_eqb)) (λ c. search (rules, eq-eqb, ne_eqb))
+    (λ c. search (rules, eq-eqb, ne_eqb)) (λ c. search (rules, eq-eqb, ne_eqb)))

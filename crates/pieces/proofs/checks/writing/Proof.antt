@@ -1,9 +1,9 @@
 -- `pieces::checks::writing` meets its contract: what is refused of a state that runs, and then the room.
-use Rattle·pieces·proofs.proofs.Names.{needs, writing}
-use Rattle·pieces·proofs.proofs.checks.writing.Statement.{statement}
-use Rattle·pieces·proofs.proofs.checks.writing.Tie as tie
+use Rattle.pieces.proofs.Names.{rules, writing}
+use Rattle.pieces.proofs.checks.writing.Statement.{statement}
+use Rattle.pieces.proofs.checks.writing.Tie as tie
 
-pub writing-spec : {M : Type 1} → statement M
+pub writing_spec : {M : Type 1} → statement M
 unfolding writing
-writing-spec = tie.close (tie.spec (λ c. search needs) (λ c. search needs) (λ c. search needs)
-    (λ c. rw (c .and-then .ensures, c .before .running .ensures, c .before .before .refuse .ensures)))
+writing_spec = tie.close (tie.spec (λ c. search rules) (λ c. search rules) (λ c. search rules)
+    (λ c. rw (c.and_then.ensures, c.running.ensures, c.refuse-space.ensures)))

@@ -1,36 +1,29 @@
 -- `pieces::ctr::start` meets its contract: what the checks refuse is refused, and otherwise the IV is the first counter.
-use Rattle·pieces·proofs.proofs.Names.{Ctr·counting, _<_, _∙_, _≡_, arith, ctrAfter, ctrStart, getD, key-and-iv-passed, length, needs, now}
-use Rattle·pieces·proofs.proofs.Names.{sixteen, spelled, sym, ℕ}
-use Rattle·pieces·proofs.proofs.KeyStream.{flow-start}
-use Rattle·pieces·proofs.proofs.ctr.start.Statement.{statement}
-use Rattle·pieces·proofs.proofs.ctr.start.Tie as tie
+use Rattle.pieces.proofs.Names.{CtrCounting, ◌<◌, ◌∙◌, ◌≡◌, arith, ctr_after, ctr_start, get_or, key-and-iv_passed, length, rules}
+use Rattle.pieces.proofs.Names.{sixteen, spelled, sym, ℕ}
+use Rattle.pieces.proofs.KeyStream.{flow_start}
+use Rattle.pieces.proofs.ctr.start.Statement.{statement}
+use Rattle.pieces.proofs.ctr.start.Tie as tie
 
-passed : (x : tie.After-enum-told) → length (now (x .before .before .before .before .before .args .iv)) ≡ 16
-passed x =
-    sixteen _ (key-and-iv-passed _ _ _ _ _ (sym (x .before .before .key-and-iv .ensures) ∙ x .enum-told .given .1) .iv-size)
+returns_2 : tie.Need-returns
+unfolding ctr_start ctr_after
+returns_2 c =
+    let a = c.args in
+    let iv = a.iv.now in
+    let passed : length iv ≡ 16 =
+    sixteen _ (key-and-iv_passed _ _ _ _ _ (sym c.key_and_iv-checked.ensures ∙ c.in_default.is)).iv-size in
+    let small : (i : ℕ) → get_or iv i 0 < 256 = λ i. omega (arith, c.shared_slice_known-1.given i) in
+    let counter = spelled iv _ passed small c.split_block.ensures in
+    rw (← c.key_and_iv-checked.ensures, c.in_default.is, c.done.ensures, c.begin-flow.ensures, counter)
+    (rw (← flow_start CtrCounting a.cipher.rk iv, c.number_in-key.ensures))
 
-returns-2 : tie.Need-returns-2
-unfolding ctrStart ctrAfter
-returns-2 c =
-    let at-begin = c .before .before in
-    let at-split = at-begin .before in
-    let told = at-split .before .before .before .before .before .before in
-    let at-check = told .before .before in
-    let at-number = at-check .before in
-    let a = at-number .before .before .args in
-    let iv = now (a .iv) in
-    let small : (i : ℕ) → getD iv i 0 < 256 = λ i. omega (arith, at-number .before .shared-slice-known .given i) in
-    let counter = spelled iv _ (passed told) small (at-split .split-block .ensures) in
-    rw (← at-check .key-and-iv .ensures, told .enum-told .given .1, c .done .ensures, at-begin .begin .ensures, counter)
-    (rw (← flow-start Ctr·counting (a .cipher .rk) iv, at-number .number-in .ensures))
-
-pub start-spec : {M : Type 1} → statement M
-unfolding ctrStart
-start-spec = tie.close (tie.spec (λ c. search needs) (λ c. search needs) (λ c. search needs) (λ c. search needs) (λ c. search needs)
-    (λ c. search needs)
-    (λ c. let told = c .before .before .before .before in
-    rw (← told .before .before .key-and-iv .ensures, told .checked .given .1, c .before .before .refused .ensures, c .shut .ensures)
-    (rw (c .before .number .ensures, told .before .before .before .number-in .ensures)))
-    (λ c. search needs) (λ c. search needs) (λ c. search needs) (λ c. search needs) (λ c κs. search needs)
-    (λ c κs. let n = passed (c .before .before .before .before .before) in omega arith) (λ c κs. search needs)
-    (λ c. search needs) returns-2)
+pub start_spec : {M : Type 1} → statement M
+unfolding ctr_start
+start_spec = tie.close (tie.spec (λ c. search rules) (λ c. search rules) (λ c. search rules) (λ c. search rules) (λ c. search rules)
+    (λ c. search rules)
+    (λ c. rw (← c.key_and_iv-checked.ensures, c.in-Refused.is, c.refused.ensures, c.shut.ensures)
+    (rw (c.number.ensures, c.number_in-key.ensures)))
+    (λ c. search rules) (λ c. search rules) (λ c. search rules) (λ c. search rules) (λ c. search rules)
+    (λ c. let n : length c.args.iv.now ≡ 16 =
+    sixteen _ (key-and-iv_passed _ _ _ _ _ (sym c.key_and_iv-checked.ensures ∙ c.in_default.is)).iv-size in omega arith) (λ c. search rules)
+    (λ c. search rules) returns_2)

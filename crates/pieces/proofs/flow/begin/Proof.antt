@@ -1,8 +1,8 @@
 -- `pieces::flow::begin` meets its contract: the counter's bytes, and its cipher.
-use Rattle·pieces·proofs.proofs.Names.{needs}
-use Rattle·pieces·proofs.proofs.flow.begin.Statement.{statement}
-use Rattle·pieces·proofs.proofs.flow.begin.Tie as tie
+use Rattle.pieces.proofs.Names.{rules}
+use Rattle.pieces.proofs.flow.begin.Statement.{statement}
+use Rattle.pieces.proofs.flow.begin.Tie as tie
 
-pub begin-spec : {M : Type 1} → statement M
-begin-spec = tie.close (tie.spec (λ c. search needs) (λ c κs. search needs)
-    (λ c. rw (c .before .combine-block .ensures, c .ciphered .ensures)))
+pub begin_spec : {M : Type 1} → statement M
+begin_spec = tie.close (tie.spec (λ c. search rules) (λ c. search rules)
+    (λ c. rw (c.combine_block.ensures, c.ciphered.ensures)))

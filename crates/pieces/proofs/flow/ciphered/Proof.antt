@@ -1,10 +1,10 @@
 -- `pieces::flow::ciphered` meets its contract: the cipher of four words is that of the bytes that they spell.
-use Rattle·pieces·proofs.proofs.Names.{needs}
-use Rattle·pieces·proofs.proofs.Fitting.{ciphered-words}
-use Rattle·pieces·proofs.proofs.flow.ciphered.Statement.{statement}
-use Rattle·pieces·proofs.proofs.flow.ciphered.Tie as tie
+use Rattle.pieces.proofs.Names.{rules}
+use Rattle.pieces.proofs.Fitting.{ciphered-words}
+use Rattle.pieces.proofs.flow.ciphered.Statement.{statement}
+use Rattle.pieces.proofs.flow.ciphered.Tie as tie
 
-pub ciphered-spec : {M : Type 1} → statement M
-ciphered-spec = tie.close (tie.spec (λ c κs. search needs) (λ c. search needs)
-    (λ c. let a = c .before .before .before .args in
-    rw (c .combine-block .ensures, c .before .encrypt .ensures, ciphered-words (a .rk) (a .s) (search needs) (λ i. search needs))))
+pub ciphered_spec : {M : Type 1} → statement M
+ciphered_spec = tie.close (tie.spec (λ c. search rules) (λ c. search rules)
+    (λ c. let a = c.args in
+    rw (c.combine_block.ensures, c.encrypt.ensures, ciphered-words a.rk a.s (search rules) (λ i. search rules))))

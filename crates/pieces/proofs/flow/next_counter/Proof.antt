@@ -1,9 +1,9 @@
 -- `pieces::flow::next_counter` meets its contract: in each arm it is known whose counters are meant.
-use Rattle·pieces·proofs.proofs.Names.{needs}
-use Rattle·pieces·proofs.proofs.flow.next_counter.Statement.{statement}
-use Rattle·pieces·proofs.proofs.flow.next_counter.Tie as tie
+use Rattle.pieces.proofs.Names.{rules}
+use Rattle.pieces.proofs.flow.next_counter.Statement.{statement}
+use Rattle.pieces.proofs.flow.next_counter.Tie as tie
 
-pub next-counter-spec : {M : Type 1} → statement M
-next-counter-spec = tie.close (tie.spec (λ c. search needs) (λ c. search needs) (λ c. search needs) (λ c. search needs)
-    (λ c. rw (c .before .before .enum-told .given .1) (c .before .block-add-one .ensures .0))
-    (λ c. rw (c .before .before .enum-told2 .given .1) (c .before .gcm-block-add-one .ensures .0)))
+pub next_counter_spec : {M : Type 1} → statement M
+next_counter_spec = tie.close (tie.spec (λ c. search rules) (λ c. search rules) (λ c. search rules) (λ c. search rules)
+    (λ c. rw c.in-Ctr.is c.block_add_one.ensures.0)
+    (λ c. rw c.in-Gcm.is c.gcm_block_add_one.ensures.0))

@@ -1,22 +1,17 @@
 -- `pieces::flow::onward` meets its contract: the stream starts at the next counter, and its end is the flow's.
-use Rattle·pieces·proofs.proofs.Names.{flowAfter, needs, refl}
-use Rattle·pieces·proofs.proofs.Fitting.{spelt}
-use Rattle·pieces·proofs.proofs.flow.onward.Statement.{statement}
-use Rattle·pieces·proofs.proofs.flow.onward.Tie as tie
+use Rattle.pieces.proofs.Names.{flow_after, rules, refl}
+use Rattle.pieces.proofs.Fitting.{spelt}
+use Rattle.pieces.proofs.flow.onward.Statement.{statement}
+use Rattle.pieces.proofs.flow.onward.Tie as tie
 
 returns : tie.Need-returns
-unfolding flowAfter
+unfolding flow_after
 returns c =
-    let at-stream = c .before .before .before .before .before in
-    let at-kind = at-stream .before .before in
-    let at-split = at-kind .before .before in
-    let S = at-split .before .before .before .before .before in
-    let start = S .good .1 .1 .1 .0 in
-    let streamed = at-stream .stream .ensures in
-    rw (c .combine-block .ensures, streamed .0, streamed .1 .0 refl, streamed .1 .1, at-kind .kind-of .ensures)
-    (rw (at-kind .before .next-counter .ensures, at-split .split-block .ensures)
-    (rw (spelt (S .args .t4) (search (needs, start), λ i. search (needs, start))) (refl, refl)))
+    let streamed = c.stream-end.ensures in
+    rw (c.combine_block.ensures, streamed.0, streamed.1.0 refl, streamed.1.1, c.kind_of.ensures)
+    (rw (c.next_counter-next.ensures, c.split_block.ensures)
+    (rw (spelt c.args.counter (search rules, λ i. search rules)) (refl, refl)))
 
-pub onward-spec : {M : Type 1} → statement M
-onward-spec = tie.close (tie.spec (λ c. search needs) (λ c. search needs) (λ c. search needs) (λ c. search needs) (λ c κs. search needs)
-    (λ c. search needs) (λ c. search needs) returns)
+pub onward_spec : {M : Type 1} → statement M
+onward_spec = tie.close (tie.spec (λ c. search rules) (λ c. search rules) (λ c. search rules) (λ c. search rules) (λ c. search rules)
+    (λ c. search rules) (λ c. search rules) returns)

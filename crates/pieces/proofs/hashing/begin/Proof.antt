@@ -1,13 +1,12 @@
--- `pieces::hashing::begin` meets its contract: before the first byte nothing is held (`held-within`).
-use Rattle·pieces·proofs.proofs.Names.{[], arith, bytesOf-bytes, filledUp, hashOf, length-bytesOf, needs}
-use Rattle·pieces·proofs.proofs.HashOn.{held-within}
-use Rattle·pieces·proofs.proofs.hashing.begin.Statement.{statement}
-use Rattle·pieces·proofs.proofs.hashing.begin.Tie as tie
+-- `pieces::hashing::begin` meets its contract: before the first byte nothing is held (`held_within`).
+use Rattle.pieces.proofs.Names.{[], arith, bytes_of-bytes, filled_up, hash_of, length-bytes_of, rules}
+use Rattle.pieces.proofs.HashOn.{held_within}
+use Rattle.pieces.proofs.hashing.begin.Statement.{statement}
+use Rattle.pieces.proofs.hashing.begin.Tie as tie
 
-pub begin-spec : {M : Type 1} → statement M
-unfolding hashOf filledUp
-begin-spec = tie.close (tie.spec (λ c. search needs) (λ c. search needs) (λ c. search needs) (λ c. search needs)
-    (λ c. let at-label = c .before .before .before in
-    let new = at-label .before .new .ensures in
-    rw (c .before .bytes-of .ensures, c .bytes-of2 .ensures, at-label .absorb-all .ensures .hash, new .0, new .1)
-    (held-within _ _ [] (omega arith) (length-bytesOf 16 _) (bytesOf-bytes 16 _))))
+pub begin_spec : {M : Type 1} → statement M
+unfolding hash_of filled_up
+begin_spec = tie.close (tie.spec (λ c. search rules) (λ c. search rules) (λ c. search rules) (λ c. search rules)
+    (λ c. let new = c.new-start.ensures in
+    rw (c.bytes_of.ensures, c.bytes_of-2.ensures, c.absorb_all-labelled.ensures.hash, new.0, new.1)
+    (held_within _ _ [] (omega arith) (length-bytes_of 16 _) (bytes_of-bytes 16 _))))

@@ -1,20 +1,15 @@
 -- `pieces::hashing::end` meets its contract: what is held is one block or none, and the length block is behind it.
-use Rattle·pieces·proofs.proofs.Names.{_≡_, absorbed-both, arith, hashEnd, length, needs, sub-zero}
-use Rattle·pieces·proofs.proofs.hashing.end.Statement.{statement}
-use Rattle·pieces·proofs.proofs.hashing.end.Tie as tie
-
-held-length : (s : tie.Start) → length (s .args .g .held) ≡ 16
-held-length s = search needs
+use Rattle.pieces.proofs.Names.{◌≡◌, absorbed_both, arith, hash_end, length, rules, sub-zero}
+use Rattle.pieces.proofs.hashing.end.Statement.{statement}
+use Rattle.pieces.proofs.hashing.end.Tie as tie
 
 returns : tie.Need-returns
-unfolding hashEnd
+unfolding hash_end
 returns c =
-    let at-all = c .before .before in
-    let at-y = at-all .before .before .before in
-    let hashed = absorbed-both _ _ _ _ _ (at-all .absorb-all .ensures) (c .before .absorb-lengths .ensures) .hash in
-    rw (c .bytes-of .ensures, hashed, sub-zero, at-y .before .number-of .ensures, at-y .number-of2 .ensures)
+    let hashed = (absorbed_both _ _ _ _ _ c.absorb_all-all.ensures c.absorb_lengths-last.ensures).hash in
+    rw (c.bytes_of.ensures, hashed, sub-zero, c.number_of.ensures, c.number_of-2.ensures)
 
-pub end-spec : {M : Type 1} → statement M
-end-spec = tie.close (tie.spec (λ c. search needs) (λ c. search needs) (λ c. search needs) (λ c. search needs)
-    (λ c. let n = held-length (c .before .before .before .before .before .before) in omega arith) (λ c. search needs) (λ c. search needs)
-    (λ c. search needs) returns)
+pub end_spec : {M : Type 1} → statement M
+end_spec = tie.close (tie.spec (λ c. search rules) (λ c. search rules) (λ c. search rules) (λ c. search rules)
+    (λ c. let n : length c.args.g.held ≡ 16 = search rules in omega arith) (λ c. search rules) (λ c. search rules)
+    (λ c. search rules) returns)

@@ -1,29 +1,23 @@
 -- `pieces::hashing::full_blocks` meets its contract: the block, and then the full blocks behind it, are those of both joined
--- (`full-first`), and what is held is what is begun behind them (`begun-behind`).
-use Rattle·pieces·proofs.proofs.Names.{_%_, _*_, _-_, _/_, _≡_, absorbed-both, arith, hashAfter, length, needs, now, sub-zero, tail-is}
-use Rattle·pieces·proofs.proofs.Begun.{begun-behind}
-use Rattle·pieces·proofs.proofs.HashOn.{full-first}
-use Rattle·pieces·proofs.proofs.hashing.full_blocks.Statement.{statement}
-use Rattle·pieces·proofs.proofs.hashing.full_blocks.Tie as tie
-
-first-length : (s : tie.Start) → length (s .args .t3) ≡ 16
-first-length s = search needs
+-- (`full_first`), and what is held is what is begun behind them (`begun-behind`).
+use Rattle.pieces.proofs.Names.{◌%◌, ◌*◌, ◌-◌, ◌/◌, ◌≡◌, absorbed_both, arith, hash_after, length, rules, sub-zero, tail_is}
+use Rattle.pieces.proofs.Begun.{begun-behind}
+use Rattle.pieces.proofs.HashOn.{full_first}
+use Rattle.pieces.proofs.hashing.full_blocks.Statement.{statement}
+use Rattle.pieces.proofs.hashing.full_blocks.Tie as tie
 
 returns : tie.Need-returns
-unfolding hashAfter
+unfolding hash_after
 returns c =
-    let at-all = c .before .before .before .before in
-    let at-first = at-all .before .before in
-    let at-y = at-first .before .before in
-    let S = at-y .before .before .before in
-    let d = now (S .args .rest) in
+    let n : length c.args.first ≡ 16 = search rules in
+    let d = c.args.rest.now in
     let k = length d - length d % 16 in
     let cut : k ≡ 16 * (length d / 16) = omega arith in
-    let hashed = absorbed-both _ _ _ _ _ (at-first .absorb-all .ensures) (at-all .absorb-all2 .ensures) .hash in
-    rw (c .before .before .bytes-of .ensures, hashed, c .filled .ensures, tail-is d k, sub-zero k, cut, full-first _ d (first-length S))
-    (rw (begun-behind _ d 1 (first-length S), at-y .before .number-of .ensures, at-y .number-of2 .ensures))
+    let hashed = (absorbed_both _ _ _ _ _ c.absorb_all-begun.ensures c.absorb_all-end.ensures).hash in
+    rw (c.bytes_of.ensures, hashed, c.filled.ensures, tail_is d k, sub-zero k, cut, full_first _ d n)
+    (rw (begun-behind _ d 1 n, c.number_of.ensures, c.number_of-2.ensures))
 
-pub full-blocks-spec : {M : Type 1} → statement M
-full-blocks-spec = tie.close (tie.spec (λ c. search needs) (λ c. search needs) (λ c. search needs) (λ c. search needs) (λ c. search needs)
-    (λ c. search needs) (λ c. search needs) (λ c. search needs) (λ c. search needs) (λ c. search needs) (λ c. search needs)
-    (λ c. search needs) (λ c. search needs) (λ c. search needs) returns)
+pub full_blocks_spec : {M : Type 1} → statement M
+full_blocks_spec = tie.close (tie.spec (λ c. search rules) (λ c. search rules) (λ c. search rules) (λ c. search rules) (λ c. search rules)
+    (λ c. search rules) (λ c. search rules) (λ c. search rules) (λ c. search rules) (λ c. search rules) (λ c. search rules)
+    (λ c. search rules) (λ c. search rules) (λ c. search rules) returns)

@@ -1,25 +1,18 @@
 -- `pieces::opens::same_tag` meets its contract: it compares the tag with mask and hash xored.
-use Rattle·pieces·proofs.proofs.Names.{_∙_, length-words, needs, unwords-xors, words}
-use Rattle·pieces·proofs.proofs.Fitting.{Sixteen, spelt}
-use Rattle·pieces·proofs.proofs.opens.same_tag.Statement.{statement}
-use Rattle·pieces·proofs.proofs.opens.same_tag.Tie as tie
-
-mask-is : (s : tie.Start) → Sixteen (s .args .t2)
-mask-is s = (search needs, λ i. search needs)
-
-hash-is : (s : tie.Start) → Sixteen (s .args .t3)
-hash-is s = (search needs, λ i. search needs)
+use Rattle.pieces.proofs.Names.{◌∙◌, length-words, rules, unwords-xors, words}
+use Rattle.pieces.proofs.Fitting.{Sixteen, spelt}
+use Rattle.pieces.proofs.opens.same_tag.Statement.{statement}
+use Rattle.pieces.proofs.opens.same_tag.Tie as tie
 
 returns : tie.Need-returns
 returns c =
-    let at-hash = c .before .before in
-    let at-mask = at-hash .before .before in
-    let S = at-mask .before .before .before in
-    let mask = S .args .t2 in
-    let hash = S .args .t3 in
-    c .is-tag .ensures ∙ rw (c .before .block-xor .ensures, at-mask .split-block .ensures, at-hash .split-block2 .ensures)
-    (rw (unwords-xors (words mask) (words hash) (length-words mask) (length-words hash), spelt mask (mask-is S), spelt hash (hash-is S)))
+    let mask = c.args.mask in
+    let hash = c.args.hash in
+    let mask_is : Sixteen mask = (search rules, λ i. search rules) in
+    let hash_is : Sixteen hash = (search rules, λ i. search rules) in
+    c.is_tag.ensures ∙ rw (c.block_xor-expected.ensures, c.split_block.ensures, c.split_block-2.ensures)
+    (rw (unwords-xors (words mask) (words hash) (length-words mask) (length-words hash), spelt mask mask_is, spelt hash hash_is))
 
-pub same-tag-spec : {M : Type 1} → statement M
-same-tag-spec = tie.close (tie.spec (λ c. search needs) (λ c. search needs) (λ c. search needs) (λ c. search needs) (λ c. search needs)
-    (λ c. search needs) returns)
+pub same_tag_spec : {M : Type 1} → statement M
+same_tag_spec = tie.close (tie.spec (λ c. search rules) (λ c. search rules) (λ c. search rules) (λ c. search rules) (λ c. search rules)
+    (λ c. search rules) returns)

@@ -1,29 +1,24 @@
 -- `pieces::opens::start` meets its contract: what the checks refuse is refused, and otherwise the label's hash and the cipher of J0
 -- are `tagging::begin`'s.
-use Rattle·pieces·proofs.proofs.Names.{_∙_, iv-twelve-or-sixteen, needs, opensAfter, opensStart, sym}
-use Rattle·pieces·proofs.proofs.Passing.{starting-passed}
-use Rattle·pieces·proofs.proofs.opens.start.Statement.{statement}
-use Rattle·pieces·proofs.proofs.opens.start.Tie as tie
+use Rattle.pieces.proofs.Names.{◌∙◌, iv_twelve_or_sixteen, rules, opens_after, opens_start, sym}
+use Rattle.pieces.proofs.Passing.{starting_passed}
+use Rattle.pieces.proofs.opens.start.Statement.{statement}
+use Rattle.pieces.proofs.opens.start.Tie as tie
 
-returns-2 : tie.Need-returns-2
-unfolding opensStart opensAfter
-returns-2 c =
-    let at-begin = c .before .before .before in
-    let told = at-begin .before .before .before .before .before .before in
-    let at-check = told .before .before in
-    let begun = at-begin .begin .ensures .1 in
-    rw (← at-check .gcm-start .ensures, told .enum-told .given .1, c .done .ensures, begun .0, begun .1 .0, begun .1 .1)
-    (rw (at-check .before .number-in .ensures))
+returns_2 : tie.Need-returns
+unfolding opens_start opens_after
+returns_2 c =
+    let begun = c.begin-begun.ensures in
+    rw (← c.gcm_start-checked.ensures, c.in_default.is, c.done.ensures, begun.1.0, begun.1.1.0, begun.1.1.1)
+    (rw c.number_in-key.ensures)
 
-pub start-spec : {M : Type 1} → statement M
-unfolding opensStart
-start-spec = tie.close (tie.spec (λ c. search needs) (λ c. search needs) (λ c. search needs) (λ c. search needs) (λ c. search needs)
-    (λ c. search needs)
-    (λ c. let told = c .before .before .before .before in
-    rw (← told .before .before .gcm-start .ensures, told .checked .given .1, c .before .before .refused .ensures, c .shut .ensures)
-    (rw (c .before .number .ensures, told .before .before .before .number-in .ensures)))
-    (λ c. search needs) (λ c. search needs) (λ c. search needs) (λ c. search needs) (λ c κs. search needs)
-    (λ c κs. let told = c .before .before .before .before .before in
-    let iv = starting-passed _ _ _ _ _ (sym (told .before .before .gcm-start .ensures) ∙ told .enum-told .given .1) .taken in
-    (c .lent .ensures .0, iv-twelve-or-sixteen _ iv))
-    (λ c. search needs) returns-2)
+pub start_spec : {M : Type 1} → statement M
+unfolding opens_start
+start_spec = tie.close (tie.spec (λ c. search rules) (λ c. search rules) (λ c. search rules) (λ c. search rules) (λ c. search rules)
+    (λ c. search rules)
+    (λ c. rw (← c.gcm_start-checked.ensures, c.in-Refused.is, c.refused.ensures, c.shut.ensures)
+    (rw (c.number.ensures, c.number_in-key.ensures)))
+    (λ c. search rules) (λ c. search rules) (λ c. search rules) (λ c. search rules) (λ c. search rules)
+    (λ c _. let iv = (starting_passed _ _ _ _ _ (sym c.gcm_start-checked.ensures ∙ c.in_default.is)).taken in
+    (c.lent.ensures.0, iv_twelve_or_sixteen _ iv))
+    (λ c. search rules) returns_2)

@@ -1,17 +1,16 @@
 -- `pieces::tagging::begin` meets its contract: H and J0 are those of the keys and the IV, and J0's last word is the number in its last four
 -- bytes.
-use Rattle·pieces·proofs.proofs.Names.{Fits, getD, last-four, needs, refl, w32}
-use Rattle·pieces·proofs.proofs.tagging.begin.Statement.{statement}
-use Rattle·pieces·proofs.proofs.tagging.begin.Tie as tie
+use Rattle.pieces.proofs.Names.{Fits, get_or, last-four, rules, refl, w32}
+use Rattle.pieces.proofs.tagging.begin.Statement.{statement}
+use Rattle.pieces.proofs.tagging.begin.Tie as tie
 
 returns : tie.Need-returns
 returns c =
-    let at-counter = c .before .before in
-    let w = at-counter .first-counter .result in
-    let word : Fits w32 (getD w 3 0) = search needs in
-    rw (← last-four w (word .fits), c .before .begin .ensures, c .ciphered .ensures, at-counter .first-counter .ensures)
-    (rw (at-counter .before .hash-key .ensures) (refl, (refl, (refl, refl))))
+    let w = c.first_counter-j0.result in
+    let word : Fits w32 (get_or w 3 0) = search rules in
+    rw (← last-four w word.fits, c.begin.ensures, c.ciphered.ensures, c.first_counter-j0.ensures)
+    (rw c.hash_key-h.ensures (refl, (refl, (refl, refl))))
 
-pub begin-spec : {M : Type 1} → statement M
-begin-spec = tie.close (tie.spec (λ c κs. search needs) (λ c κs. c .before .before .before .before .pre .1) (λ c. search needs)
-    (λ c. search needs) (λ c κs. search needs) returns)
+pub begin_spec : {M : Type 1} → statement M
+begin_spec = tie.close (tie.spec (λ c. search rules) (λ c _. c.requires.1) (λ c. search rules)
+    (λ c. search rules) (λ c. search rules) returns)

@@ -1,44 +1,34 @@
 -- `ranges::by_plan::by_plan` meets its contract: where the key, the IV or the length refused, or the plan is not accepted, or the room is
 -- short, so says the definition; where none did, the pieces gave what the single call gives.
-use Rattle·ranges·proofs.proofs.Names.{Ctr, Passed, _∙_, _≡_, le-ltb, length, length-stream, lt-ltb, needs, not-false, now, planCall}
-use Rattle·ranges·proofs.proofs.Names.{reachCheck, sym, zero-add}
-use Rattle·ranges·proofs.proofs.Passed.{reach-passed}
-use Rattle·ranges·proofs.proofs.by_plan.by_plan.Statement.{statement}
-use Rattle·ranges·proofs.proofs.by_plan.by_plan.Tie as tie
+use Rattle.ranges.proofs.Names.{Ctr, ◌∙◌, le-ltb, length-stream, lt-ltb, rules, plan_call}
+use Rattle.ranges.proofs.Names.{sym, zero-add}
+use Rattle.ranges.proofs.Passed.{reach_passed}
+use Rattle.ranges.proofs.by_plan.by_plan.Statement.{statement}
+use Rattle.ranges.proofs.by_plan.by_plan.Tie as tie
 
-passed : (x : tie.After-enum-told)
-    → let a = x .before .before .before .before .before .before .before .args in
-    reachCheck (a .cipher .answer) (a .cipher .retired) (a .direction) (length (now (a .iv))) (length (now (a .«data»))) ≡ Passed
-passed x = sym (rw zero-add at (x .before .before .reach .ensures)) ∙ x .enum-told .given .1
+pieces_by_requires : tie.Need-pieces_by-requires
+pieces_by_requires c _ =
+    let passed = sym (rw zero-add at c.reach-checked.ensures) ∙ c.in_default.is in
+    (reach_passed _ _ _ _ _ passed, (sym c.accepts.ensures ∙ c.if-not-accepts.false, c.if-out-n.false))
 
-pieces-by-requires : tie.Need-pieces-by-requires
-pieces-by-requires c κs =
-    let at-room = c .before .before in
-    let at-accepts = at-room .before .before in
-    let yes = sym (at-accepts .accepts .ensures) ∙ not-false (at-accepts .accepts .result) (at-room .before .if1 .left) in
-    (reach-passed _ _ _ _ _ (passed (at-accepts .before)), (yes, at-room .if2 .left))
+returns_4 : tie.Need-returns
+unfolding plan_call
+returns_4 c =
+    let a = c.args in
+    let passed = sym (rw zero-add at c.reach-checked.ensures) ∙ c.in_default.is in
+    rw (passed, ← c.accepts.ensures, c.if-not-accepts.false, le-ltb _ _ c.if-out-n.false)
+    (rw (c.pieces_by.ensures, length-stream Ctr a.cipher.rk (a.iv.now) (a.«data».now), c.number_in-key.ensures))
 
-returns-4 : tie.Need-returns-4
-unfolding planCall
-returns-4 c =
-    let at-work = c .before .before in
-    let at-room = at-work .before .before .before in
-    let at-accepts = at-room .before .before in
-    let told = at-accepts .before in
-    let at-number = told .before .before .before in
-    let a = at-number .before .before .before .before .args in
-    rw (passed told, ← at-accepts .accepts .ensures, at-room .before .if1 .left, le-ltb _ _ (at-room .if2 .left))
-    (rw (at-work .pieces-by .ensures, length-stream Ctr (a .cipher .rk) (now (a .iv)) (now (a .«data»)), at-number .number-in .ensures))
-
-pub by-plan-spec : {M : Type 1} → statement M
-unfolding planCall
-by-plan-spec = tie.close (tie.spec (λ c. search needs) (λ c. search needs) (λ c. search needs)
-    (λ c. let at-reach = c .before .before .before in rw (← (rw zero-add at (at-reach .reach .ensures)), c .before .checked .given .1)
-    (rw (at-reach .before .number-in .ensures)))
-    (λ c. search needs) (λ c. search needs)
-    (λ c. let told = c .before .before in rw (passed told, ← c .before .accepts .ensures, c .if1 .taken)
-    (rw (told .before .before .before .number-in .ensures)))
-    (λ c. let told = c .before .before .before in
-    rw (passed told, ← c .before .before .accepts .ensures, c .before .if1 .left, lt-ltb _ _ (c .if2 .taken))
-    (rw (told .before .before .before .number-in .ensures)))
-    pieces-by-requires (λ c. search needs) returns-4)
+pub by_plan_spec : {M : Type 1} → statement M
+unfolding plan_call
+by_plan_spec = tie.close (tie.spec (λ c. search rules) (λ c. search rules) (λ c. search rules)
+    (λ c. rw (← (rw zero-add at c.reach-checked.ensures), c.in-Refused.is)
+    (rw c.number_in-key.ensures))
+    (λ c. search rules) (λ c. search rules)
+    (λ c. let passed = sym (rw zero-add at c.reach-checked.ensures) ∙ c.in_default.is in
+    rw (passed, ← c.accepts.ensures, c.if-not-accepts.true)
+    (rw c.number_in-key.ensures))
+    (λ c. let passed = sym (rw zero-add at c.reach-checked.ensures) ∙ c.in_default.is in
+    rw (passed, ← c.accepts.ensures, c.if-not-accepts.false, lt-ltb _ _ c.if-out-n.true)
+    (rw c.number_in-key.ensures))
+    pieces_by_requires (λ c. search rules) returns_4)

@@ -1,74 +1,68 @@
 -- `plan::accepts` meets its contract. The loop's invariant: the pieces so far reach `at`, which is not past `n`, and whether those to
 -- come follow one another from there decides. The measure is how many are to come.
-use Rattle·ranges·proofs.proofs.Names.{_+_, _-_, _∙_, _≡_, _≤_, accepts, arith, cond, false, getD, le-leb, length, lt-leb, needs, not-false}
-use Rattle·ranges·proofs.proofs.Names.{not-true, refl, sym, true}
-use Rattle·ranges·proofs.proofs.Following.{followsFrom, tested, piece-fits, ends}
-use Rattle·ranges·proofs.proofs.plan.accepts.Statement.{statement}
-use Rattle·ranges·proofs.proofs.plan.accepts.Tie as tie
+use Rattle.ranges.proofs.Names.{◌+◌, ◌-◌, ◌∙◌, ◌≡◌, ◌≤◌, accepts, arith, cond, false, get_or, le-leb, length, lt-leb, rules}
+use Rattle.ranges.proofs.Names.{refl, sym, true}
+use Rattle.ranges.proofs.Following.{follows_from, tested, piece-fits, ends}
+use Rattle.ranges.proofs.plan.accepts.Statement.{statement}
+use Rattle.ranges.proofs.plan.accepts.Tie as tie
 
-abbrev Inv-loop : tie.InvT-loop
-Inv-loop n count starts lengths at₀ i₀ at i =
+abbrev invariant_loop : tie.invariant-loop-i
+invariant_loop n count starts lengths at₀ i₀ at i =
     (count ≤ 64)
     × (at ≤ n)
     × (i ≤ count)
-    × (followsFrom starts lengths count n i at ≡ followsFrom starts lengths count n 0 0)
+    × (follows_from starts lengths count n i at ≡ follows_from starts lengths count n 0 0)
 
-abbrev μ-loop : tie.MeasureT-loop
-μ-loop n count starts lengths at₀ i₀ at i = count - i
-
-sixty-four : (s : tie.Start Inv-loop μ-loop) → (length (s .args .plan .starts) ≡ 64) × (length (s .args .plan .lengths) ≡ 64)
-sixty-four s = (search needs, search needs)
+abbrev decreases_loop : tie.decreases-loop-i
+decreases_loop n count starts lengths at₀ i₀ at i = count - i
 
 -- the test of the piece at this turn decides, and one that it lets through lies within n
-turn : (x : tie.After-is-piece Inv-loop μ-loop)
-    → let l = x .before .before .loop in
-    let a = x .before .before .before .before .before .before .args in
-    let p = a .plan in
-    let end = l .at + getD (p .lengths) (l .i) 0 in
-    (cond (x .is-piece .result) (followsFrom (p .starts) (p .lengths) (p .count) (a .n) (l .i + 1) end) false
-    ≡ followsFrom (p .starts) (p .lengths) (p .count) (a .n) 0 0)
-    × (x .is-piece .result ≡ true → end ≤ a .n)
+turn : (x : tie.After-is_piece invariant_loop decreases_loop)
+    → let l = x.loop-i in
+    let a = x.args in
+    let p = a.plan in
+    let end = l.at + get_or p.lengths l.i 0 in
+    (cond x.is_piece.result (follows_from p.starts p.lengths p.count a.n (l.i + 1) end) false
+    ≡ follows_from p.starts p.lengths p.count a.n 0 0)
+    × (x.is_piece.result ≡ true → end ≤ a.n)
 turn x =
-    let l = x .before .before .loop in
-    let S = x .before .before .before .before .before .before in
-    let p = S .args .plan in
-    let n = S .args .n in
-    let k = sixty-four S in
-    let starts : p .count ≤ length (p .starts) = omega (arith, k .0) in
-    let lengths : p .count ≤ length (p .lengths) = omega (arith, k .1) in
-    let is = x .is-piece .ensures in (
-      rw is (sym (tested (p .starts) (p .lengths) (p .count) (l .i) (l .at) n starts lengths (omega arith) (omega arith)) ∙ l .inv .3),
-      λ e. piece-fits (p .starts) (p .lengths) (p .count) (l .i) (l .at) n starts lengths (omega arith) (omega arith) (sym is ∙ e),
+    let l = x.loop-i in
+    let p = x.args.plan in
+    let n = x.args.n in
+    let k : (length p.starts ≡ 64) × (length p.lengths ≡ 64) = (search rules, search rules) in
+    let starts : p.count ≤ length p.starts = omega (arith, k.0) in
+    let lengths : p.count ≤ length p.lengths = omega (arith, k.1) in
+    let is = x.is_piece.ensures in (
+      rw is (sym (tested p.starts p.lengths p.count l.i l.at n starts lengths (omega arith) (omega arith)) ∙ l.invariant.3),
+      λ e. piece-fits p.starts p.lengths p.count l.i l.at n starts lengths (omega arith) (omega arith) (sym is ∙ e),
     )
 
-passed : (x : tie.Else2 Inv-loop μ-loop) → x .before .is-piece .result ≡ true
-passed x = not-false (x .before .is-piece .result) (x .if2 .left)
-
-returns-2 : tie.Need-returns-2 Inv-loop μ-loop
+returns_2 : tie.Need-returns-then-not-is_piece invariant_loop decreases_loop
 unfolding accepts
-returns-2 c =
-    let p = c .before .before .before .before .before .before .before .args .plan in
-    rw (le-leb (p .count) 64 (c .before .before .before .loop .inv .0), ← turn (c .before) .0)
-    (rw (not-true (c .before .is-piece .result) (c .if2 .taken)))
+returns_2 c =
+    let p = c.args.plan in
+    rw (le-leb p.count 64 c.loop-i.invariant.0, ← (turn c.before).0)
+    (rw c.if-not-is_piece.true)
 
-loop-again : tie.Need-loop-again Inv-loop μ-loop
-loop-again c =
-    let inv = c .before .before .before .loop .inv in
-    let on = turn (c .before) in
-    (inv .0, on .1 (passed c), omega arith, rw (passed c) at (on .0))
+loop_again : tie.Need-loop-i-preserved invariant_loop decreases_loop
+loop_again c =
+    let inv = c.loop-i.invariant in
+    let on = turn c.before in
+    (inv.0, on.1 c.if-not-is_piece.false, omega arith, rw c.if-not-is_piece.false at on.0)
 
-returns-3 : tie.Need-returns-3 Inv-loop μ-loop
+returns_3 : tie.Need-returns invariant_loop decreases_loop
 unfolding accepts
-returns-3 c =
-    let l = c .before .loop in
-    let S = c .before .before .before .before .before in
-    let p = S .args .plan in
-    let end = ends (p .starts) (p .lengths) (p .count) (l .i) (l .at) _ (omega (arith, sixty-four S .0)) (omega arith) in
-    rw (le-leb (p .count) 64 (l .inv .0)) (sym end ∙ l .inv .3)
+returns_3 c =
+    let l = c.loop-i in
+    let p = c.args.plan in
+    let k : length p.starts ≡ 64 = search rules in
+    let end = ends p.starts p.lengths p.count l.i l.at _ (omega arith) (omega arith) in
+    rw (le-leb p.count 64 l.invariant.0) (sym end ∙ l.invariant.3)
 
-pub accepts-spec : {M : Type 1} → statement M
+pub accepts_spec : {M : Type 1} → statement M
 unfolding accepts
-accepts-spec = tie.close (tie.spec Inv-loop μ-loop (λ c. rw (lt-leb _ _ (c .if1 .taken)))
+accepts_spec = tie.close (tie.spec invariant_loop decreases_loop (λ c. rw (lt-leb _ _ c.if-count-gt-MOST.true))
     (λ c. (omega arith, omega arith, omega arith, refl)) (λ c. omega arith) (λ c. omega arith) (λ c. omega arith) (λ c. omega arith)
-    (λ c. omega arith) (λ c. omega arith) (λ c. search needs) returns-2
-    (λ c. record { fits = omega (arith, turn (c .before) .1 (passed c)) }) (λ c. omega arith) (λ c. omega arith) loop-again returns-3)
+    (λ c. omega arith) (λ c. omega arith) (λ c. search rules) returns_2
+    (λ c. record { fits = omega (arith, (turn c.before).1 c.if-not-is_piece.false) }) (λ c. omega arith) (λ c. omega arith)
+    loop_again returns_3)

@@ -1,7 +1,7 @@
 -- `plan::start_at` meets its contract: each branch is the test that led to it.
-use Rattle·ranges·proofs.proofs.Names.{le-ltb, lt-ltb}
-use Rattle·ranges·proofs.proofs.plan.start_at.Statement.{statement}
-use Rattle·ranges·proofs.proofs.plan.start_at.Tie as tie
+use Rattle.ranges.proofs.Names.{le-ltb, lt-ltb}
+use Rattle.ranges.proofs.plan.start_at.Statement.{statement}
+use Rattle.ranges.proofs.plan.start_at.Tie as tie
 
-pub start-at-spec : {M : Type 1} → statement M
-start-at-spec = tie.close (tie.spec (λ c. rw (lt-ltb _ _ (c .if1 .taken))) (λ c. rw (le-ltb _ _ (c .if1 .left))))
+pub start_at_spec : {M : Type 1} → statement M
+start_at_spec = tie.close (tie.spec (λ c. rw (lt-ltb _ _ c.if-at-n.true)) (λ c. rw (le-ltb _ _ c.if-at-n.false)))

@@ -1,10 +1,10 @@
 -- `ranges::range::reach` meets its contract: key and IV, and then where the stretch ends.
-use Rattle·ranges·proofs.proofs.Names.{needs, reachCheck}
-use Rattle·ranges·proofs.proofs.range.reach.Statement.{statement}
-use Rattle·ranges·proofs.proofs.range.reach.Tie as tie
+use Rattle.ranges.proofs.Names.{rules, reach_check}
+use Rattle.ranges.proofs.range.reach.Statement.{statement}
+use Rattle.ranges.proofs.range.reach.Tie as tie
 
-pub reach-spec : {M : Type 1} → statement M
-unfolding reachCheck
-reach-spec = tie.close (tie.spec (λ c. search needs) (λ c. search needs) (λ c. search needs) (λ c. search needs)
-    (λ c. let at-past = c .before .before in rw (c .and-then .ensures, c .before .refuse .ensures, at-past .past-limit .ensures)
-    (rw (at-past .before .key-and-iv .ensures))))
+pub reach_spec : {M : Type 1} → statement M
+unfolding reach_check
+reach_spec = tie.close (tie.spec (λ c. search rules) (λ c. search rules) (λ c. search rules) (λ c. search rules)
+    (λ c. rw (c.and_then.ensures, c.refuse.ensures, c.past_limit-past.ensures)
+    (rw c.key_and_iv-first.ensures)))

@@ -1,10 +1,10 @@
 -- `change::short` meets its contract.
-use Rattle·shelf·proofs.proofs.Names.{_+_, arith, lt-ltb, needs, sym}
-use Rattle·shelf·proofs.proofs.change.short.Statement.{statement}
-use Rattle·shelf·proofs.proofs.change.short.Tie as tie
+use Rattle.shelf.proofs.Names.{◌+◌, arith, lt-ltb, rules, sym}
+use Rattle.shelf.proofs.change.short.Statement.{statement}
+use Rattle.shelf.proofs.change.short.Tie as tie
 
-pub short-spec : {M : Type 1} → statement M
-short-spec =
-    tie.close (tie.spec (λ c. let a = c .before .args in sym (lt-ltb (a .room) (a .taken + (12 + a .n)) (omega arith)))
-    (λ c. let a = c .before .before .args in sym (lt-ltb (a .room) (a .taken + (12 + a .n)) (omega arith))) (λ c. search needs)
-    (λ c. search needs) (λ c. search needs))
+pub short_spec : {M : Type 1} → statement M
+short_spec =
+    tie.close (tie.spec (λ c. let a = c.args in sym (lt-ltb a.room (a.taken + (12 + a.n)) (omega arith)))
+    (λ c. let a = c.args in sym (lt-ltb a.room (a.taken + (12 + a.n)) (omega arith))) (λ c. search rules)
+    (λ c. search rules) (λ c. search rules))

@@ -1,9 +1,9 @@
 -- `lookup::is_second` meets its contract.
-use Rattle·shelf·proofs.proofs.Names.{needs}
-use Rattle·shelf·proofs.proofs.Walks.{has-told}
-use Rattle·shelf·proofs.proofs.lookup.is_second.Statement.{statement}
-use Rattle·shelf·proofs.proofs.lookup.is_second.Tie as tie
+use Rattle.shelf.proofs.Names.{rules}
+use Rattle.shelf.proofs.Walks.{has_told}
+use Rattle.shelf.proofs.lookup.is_second.Statement.{statement}
+use Rattle.shelf.proofs.lookup.is_second.Tie as tie
 
-pub is-second-spec : {M : Type 1} → statement M
-is-second-spec = tie.close (tie.spec (λ c κs. search needs) (λ c. rw (c .before .before .if1 .taken, has-told (c .before .survey .ensures)))
-    (λ c. rw (c .if1 .left)))
+pub is_second_spec : {M : Type 1} → statement M
+is_second_spec = tie.close (tie.spec (λ c. search rules) (λ c. rw (c.if-h.true, has_told c.survey-found.ensures))
+    (λ c. rw c.if-h.false))

@@ -1,7 +1,7 @@
 -- `records::number` meets its contract.
-use Rattle·shelf·proofs.proofs.Names.{arith, needs, numberOf}
-use Rattle·shelf·proofs.proofs.records.number.Statement.{statement}
-use Rattle·shelf·proofs.proofs.records.number.Tie as tie
+use Rattle.shelf.proofs.Names.{arith, rules, number_of}
+use Rattle.shelf.proofs.records.number.Statement.{statement}
+use Rattle.shelf.proofs.records.number.Tie as tie
 
-pub number-spec : {M : Type 1} → statement M
-number-spec = tie.close (tie.spec (λ c. search needs) (λ c. search needs) (λ c. unfold numberOf in (omega arith)))
+pub number_spec : {M : Type 1} → statement M
+number_spec = tie.close (tie.spec (λ c. search rules) (λ c. search rules) (λ c. unfold number_of in (omega arith)))

@@ -1,9 +1,9 @@
 -- `records::stays` meets its contract.
-use Rattle·shelf·proofs.proofs.Names.{eq-eqb, ne-eqb, not-false, not-true}
-use Rattle·shelf·proofs.proofs.records.stays.Statement.{statement}
-use Rattle·shelf·proofs.proofs.records.stays.Tie as tie
+use Rattle.shelf.proofs.Names.{eq-eqb, ne_eqb}
+use Rattle.shelf.proofs.records.stays.Statement.{statement}
+use Rattle.shelf.proofs.records.stays.Tie as tie
 
-pub stays-spec : {M : Type 1} → statement M
-stays-spec = tie.close (tie.spec (λ c. rw (not-true (c .before .args .coming) (c .if1 .taken)))
-    (λ c. rw (not-false (c .before .before .before .args .coming) (c .before .before .if1 .left), eq-eqb _ _ (c .if2 .taken)))
-    (λ c. rw (not-false (c .before .before .before .args .coming) (c .before .before .if1 .left), ne-eqb _ _ (c .if2 .left))))
+pub stays_spec : {M : Type 1} → statement M
+stays_spec = tie.close (tie.spec (λ c. rw (c.if-not-coming.true))
+    (λ c. rw (c.if-not-coming.false, eq-eqb _ _ c.if-h-job.true))
+    (λ c. rw (c.if-not-coming.false, ne_eqb _ _ c.if-h-job.false)))

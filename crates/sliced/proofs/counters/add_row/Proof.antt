@@ -1,32 +1,19 @@
--- `sliced::counters::add_row` meets its contract: the eight words are added one after the other (`added-next`).
-use Rattle·sliced·proofs.proofs.Names.{_*_, add-zero, arith, needs, next16}
-use Rattle·sliced·proofs.proofs.Ripple.{added-first, added-next}
-use Rattle·sliced·proofs.proofs.counters.add_row.Statement.{statement}
-use Rattle·sliced·proofs.proofs.counters.add_row.Tie as tie
+-- `sliced::counters::add_row` meets its contract: the eight words are added one after the other (`added_next`).
+use Rattle.sliced.proofs.Names.{◌*◌, add-zero, arith, rules, next16}
+use Rattle.sliced.proofs.Ripple.{added-first, added_next}
+use Rattle.sliced.proofs.counters.add_row.Statement.{statement}
+use Rattle.sliced.proofs.counters.add_row.Tie as tie
 
-pub add-row-spec : {M : Type 1} → statement M
-add-row-spec = tie.close (next16 (next16 tie.spec (omega arith)) (omega arith)
-    (λ c. search needs) (λ c κs. search needs) (λ c. search needs) (λ c. search needs) (λ c. search needs) (λ c. search needs)
-    (λ c κs.
-    let at7 = c .before .before in
-    let at4 = at7 .before .before .before .before .before .before .before .before .before in
-    let at1 = at4 .before .before .before .before .before .before .before .before .before in
-    let i = at1 .before .before .before .pre .0 in
-    (omega arith, at7 .add-at7 .ensures .size))
-    (λ c. search needs)
+pub add_row_spec : {M : Type 1} → statement M
+add_row_spec = tie.close (next16 (next16 tie.spec (omega arith)) (omega arith)
+    (λ c. search rules) (λ c. search rules) (λ c. search rules) (λ c. search rules) (λ c. search rules) (λ c. search rules)
+    (λ c κs. let i = c.requires.0 in (omega arith, c.add_at-7.ensures.size))
+    (λ c. search rules)
     (λ c.
-    let at7 = c .before .before .before in
-    let at6 = at7 .before .before .before in
-    let at5 = at6 .before .before .before in
-    let at4 = at5 .before .before .before in
-    let at3 = at4 .before .before .before in
-    let at2 = at3 .before .before .before in
-    let at1 = at2 .before .before .before in
-    let S = at1 .before .before .before in
-    let g = S .args in
-    let next = added-next (g .m) (g .i) (g .t2) (g .x .now) (g .y .now) in
-    next 7 _ _ _ _ (omega arith) (c .add-at8 .ensures) (next 6 _ _ _ _ (omega arith) (at7 .add-at7 .ensures)
-    (next 5 _ _ _ _ (omega arith) (at6 .add-at6 .ensures) (next 4 _ _ _ _ (omega arith) (at5 .add-at5 .ensures)
-    (next 3 _ _ _ _ (omega arith) (at4 .add-at4 .ensures) (next 2 _ _ _ _ (omega arith) (at3 .add-at3 .ensures)
-    (next 1 _ _ _ _ (omega arith) (at2 .add-at2 .ensures) (next 0 _ _ _ _ (omega arith) (rw (add-zero (8 * g .i)) (at1 .add-at .ensures))
-    (added-first (g .m) (g .i) (g .t2) (g .x .now) (g .y .now) (S .pre .1) (S .pre .2)))))))))))
+    let g = c.args in
+    let next = added_next g.m g.i g.a g.x.now g.y.now in
+    next 7 _ _ _ _ (omega arith) c.add_at-8.ensures (next 6 _ _ _ _ (omega arith) c.add_at-7.ensures
+    (next 5 _ _ _ _ (omega arith) c.add_at-6.ensures (next 4 _ _ _ _ (omega arith) c.add_at-5.ensures
+    (next 3 _ _ _ _ (omega arith) c.add_at-4.ensures (next 2 _ _ _ _ (omega arith) c.add_at-3.ensures
+    (next 1 _ _ _ _ (omega arith) c.add_at-2.ensures (next 0 _ _ _ _ (omega arith) (rw (add-zero (8 * g.i)) c.add_at.ensures)
+    (added-first g.m g.i g.a g.x.now g.y.now c.requires.1 c.requires.2))))))))))

@@ -1,37 +1,31 @@
 -- `sliced::counters::count` meets its contract: in each lane the last word of c and the lane's number are added, and what is carried to
 -- the other words (`lanes-counted`).
-use Rattle·sliced·proofs.proofs.Names.{AreWords, Fits, _^_, below-each, blank-room, getD, needs, numberAt, w32, ℕ}
-use Rattle·sliced·proofs.proofs.CounterDigits.{added-number, added-carry, lanes-counted}
-use Rattle·sliced·proofs.proofs.counters.count.Statement.{statement}
-use Rattle·sliced·proofs.proofs.counters.count.Tie as tie
+use Rattle.sliced.proofs.Names.{AreWords, Fits, ◌^◌, below_each, blank_room, get_or, rules, number_at, w32, ℕ}
+use Rattle.sliced.proofs.CounterDigits.{added-number, added_carry, lanes-counted}
+use Rattle.sliced.proofs.counters.count.Statement.{statement}
+use Rattle.sliced.proofs.counters.count.Tie as tie
 
-pub count-spec : {M : Type 1} → statement M
-count-spec = tie.close (tie.spec
-    (λ c κs. search needs) (λ c. search needs) (λ c κs. search needs) (λ c κs. search needs) (λ c. search needs)
-    (λ c κs. search (needs, c .before .before .before .before .before .before .pre .2 .1)) (λ c. search needs)
-    (λ c κs. search (needs, c .before .before .before .before .before .before .before .before .pre .1 .1)) (λ c. search needs)
-    (λ c κs. search (needs, c .before .before .before .before .before .before .before .before .before .before .pre .0 .1))
+pub count_spec : {M : Type 1} → statement M
+count_spec = tie.close (tie.spec
+    (λ c. search rules) (λ c. search rules) (λ c. search rules) (λ c. search rules) (λ c. search rules)
+    (λ c. search (rules, c.requires.2.1)) (λ c. search rules)
+    (λ c. search (rules, c.requires.1.1)) (λ c. search rules)
+    (λ c. search (rules, c.requires.0.1))
     (λ c.
-    let W0 = c .add-word4 in
-    let at1 = c .before .before in
-    let W1 = at1 .add-word3 in
-    let at2 = at1 .before .before in
-    let W2 = at2 .add-word2 in
-    let at-keep = at2 .before in
-    let K = at-keep .keep-carries in
-    let at3 = at-keep .before .before in
-    let W3 = at3 .add-word in
-    let at-numbers = at3 .before .before in
-    let N = at-numbers .numbers in
-    let S = at-numbers .before .before in
-    let a = S .args in
-    let x = a .t2 in
-    let fits : (i : ℕ) → Fits w32 (getD x i 0) = λ i. search (needs, S .good .1 .0) in
-    let small : AreWords x = below-each (2 ^ 32) x (λ i. fits i .fits) in (
+    let W0 = c.add_word in
+    let W1 = c.add_word-y1 in
+    let W2 = c.add_word-y2 in
+    let K = c.keep_carries in
+    let W3 = c.add_word-y3 in
+    let N = c.numbers in
+    let a = c.args in
+    let x = a.c in
+    let fits : (i : ℕ) → Fits w32 (get_or x i 0) = λ i. search (rules, c.well_formed) in
+    let small : AreWords x = below_each (2 ^ 32) x (λ i. (fits i).fits) in (
       λ e he.
-          lanes-counted x _ _ _ _ (W3 .result) (K .result) (numberAt e) e _ _ _ small
-          (added-number _ _ _ _ _ (numberAt e) e (W3 .ensures .0) he (N .ensures .0 e he) (blank-room 8))
-          (added-carry _ _ _ _ _ e (W2 .ensures .0) he (S .pre .2 .1)) (added-carry _ _ _ _ _ e (W1 .ensures .0) he (S .pre .1 .1))
-          (added-carry _ _ _ _ _ e (W0 .ensures .0) he (S .pre .0 .1)) (a .wide) (K .ensures),
-      (W0 .ensures .1, W1 .ensures .1, W2 .ensures .1, W3 .ensures .1),
+          lanes-counted x _ _ _ _ W3.result K.result (number_at e) e _ _ _ small
+          (added-number _ _ _ _ _ (number_at e) e W3.ensures.0 he (N.ensures.0 e he) (blank_room 8))
+          (added_carry _ _ _ _ _ e W2.ensures.0 he c.requires.2.1) (added_carry _ _ _ _ _ e W1.ensures.0 he c.requires.1.1)
+          (added_carry _ _ _ _ _ e W0.ensures.0 he c.requires.0.1) a.wide K.ensures,
+      (W0.ensures.1, W1.ensures.1, W2.ensures.1, W3.ensures.1),
     )))

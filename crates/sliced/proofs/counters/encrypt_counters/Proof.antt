@@ -1,24 +1,19 @@
 -- `sliced::counters::encrypt_counters` meets its contract: the lanes are the words of the counters, and once they are encrypted the rows
 -- are those of their ciphers.
-use Rattle·sliced·proofs.proofs.Names.{List, _∙_, ap, arith, blank-room, encryptBlock, jumped, needs, place, unwords, words, ℕ}
-use Rattle·sliced·proofs.proofs.LaneNumbers.{number-place}
-use Rattle·sliced·proofs.proofs.counters.encrypt_counters.Statement.{statement}
-use Rattle·sliced·proofs.proofs.counters.encrypt_counters.Tie as tie
+use Rattle.sliced.proofs.Names.{List, ◌∙◌, ap, arith, blank_room, encrypt_block, jumped, rules, place, unwords, words, ℕ}
+use Rattle.sliced.proofs.LaneNumbers.{number-place}
+use Rattle.sliced.proofs.counters.encrypt_counters.Statement.{statement}
+use Rattle.sliced.proofs.counters.encrypt_counters.Tie as tie
 
-pub encrypt-counters-spec : {M : Type 1} → statement M
-encrypt-counters-spec = tie.close (tie.spec
-    (λ c κs. search needs) (λ c κs. search (needs, blank-room)) (λ c κs. search needs) (λ c κs. search needs) (λ c. search needs)
-    (λ c. unfold encryptBlock in
-    let at-store = c .before .before in
-    let at-rounds = at-store .before .before .before .before in
-    let at-count = at-rounds .before .before .before .before .before .before .before in
-    let at-columns = at-count .before .before .before .before .before in
-    let S = at-columns .before .before .before in
-    let a = S .args in
-    let f : ℕ → List ℕ = λ i. words (jumped (a .wide) (unwords (a .c)) i) in
-    let fits = at-columns .columns-of .ensures .0 in
-    at-store .store-xored .ensures _
-    (at-rounds .rounds-to-rows .ensures .0 (a .m) f (omega arith)
+pub encrypt_counters_spec : {M : Type 1} → statement M
+encrypt_counters_spec = tie.close (tie.spec
+    (λ c. search rules) (λ c. search (rules, blank_room)) (λ c. search rules) (λ c. search rules) (λ c. search rules)
+    (λ c. unfold encrypt_block in
+    let a = c.args in
+    let f : ℕ → List ℕ = λ i. words (jumped a.wide (unwords a.c) i) in
+    let fits = c.columns_of-n.ensures.0 in
+    c.store_xored.ensures _
+    (c.rounds_to_rows.ensures.0 a.m f (omega arith)
     (λ i h.
-    let p = number-place i (omega (arith, S .pre .0)) in
-    at-count .count .ensures .0 (place i) (p .0) ∙ ap f (p .1)))))
+    let p = number-place i (omega (arith, c.requires.0)) in
+    c.count.ensures.0 (place i) p.0 ∙ ap f p.1))))

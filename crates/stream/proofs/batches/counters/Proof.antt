@@ -1,28 +1,25 @@
--- `stream::batches::counters` meets its contract. A turn of the loop goes as many blocks on as the batch has (`counted-on`).
-use Rattle·stream·proofs.proofs.Names.{Reached, _-_, arith, counting, length, length-unwords, needs, reached-first, streamMode, unwords}
-use Rattle·stream·proofs.proofs.Names.{unwords-bytes}
-use Rattle·stream·proofs.proofs.Counters.{counted-on}
-use Rattle·stream·proofs.proofs.batches.counters.Statement.{statement}
-use Rattle·stream·proofs.proofs.batches.counters.Tie as tie
+-- `stream::batches::counters` meets its contract. A turn of the loop goes as many blocks on as the batch has (`counted_on`).
+use Rattle.stream.proofs.Names.{Reached, ◌-◌, arith, counting, length, length-unwords, rules, reached-first, stream_mode, unwords}
+use Rattle.stream.proofs.Names.{unwords-bytes}
+use Rattle.stream.proofs.Counters.{counted_on}
+use Rattle.stream.proofs.batches.counters.Statement.{statement}
+use Rattle.stream.proofs.batches.counters.Tie as tie
 
-abbrev Inv-loop : tie.InvT-loop
-Inv-loop rk wide d out₀ s₀ at₀ out s at = Reached (streamMode (counting wide) rk) (unwords s₀) d out₀ (unwords s) out at
+abbrev invariant_loop : tie.invariant-loop-at
+invariant_loop rk wide d out₀ s₀ at₀ out s at = Reached (stream_mode (counting wide) rk) (unwords s₀) d out₀ (unwords s) out at
 
-abbrev μ-loop : tie.MeasureT-loop
-μ-loop rk wide d out₀ s₀ at₀ out s at = length d - at
+abbrev decreases_loop : tie.decreases-loop-at
+decreases_loop rk wide d out₀ s₀ at₀ out s at = length d - at
 
-loop-again : tie.Need-loop-again Inv-loop μ-loop
-loop-again c =
-    let at-batch = c .before .before .before in
-    let at-next = at-batch .before .before .before in
-    let at-loop = at-next .before .before in
-    let a = at-loop .before .before .before .args in
-    let l = at-loop .loop in
-    counted-on (a .rk) (a .wide) (l .inv) (at-next .next-batch .result) _ _ (omega arith) (omega arith) (length-unwords (l .s))
-    (unwords-bytes (l .s)) (c .counter-after .ensures) (at-batch .encrypt-counters .ensures)
+loop_again : tie.Need-loop-at-preserved invariant_loop decreases_loop
+loop_again c =
+    let a = c.args in
+    let l = c.loop-at in
+    counted_on a.rk a.wide l.invariant c.next_batch-m.result _ _ (omega arith) (omega arith) (length-unwords l.s)
+    (unwords-bytes l.s) c.counter_after-next.ensures c.encrypt_counters.ensures
 
-pub counters-spec : {M : Type 1} → statement M
-counters-spec = tie.close (tie.spec Inv-loop μ-loop (λ c. reached-first _ _ _ _) (λ c. omega arith) (λ c. omega arith) (λ c κs. omega arith)
-    (λ c. omega arith) (λ c. omega arith) (λ c. omega arith) (λ c. omega arith) (λ c. omega arith) (λ c. omega arith) (λ c κs. search needs)
-    (λ c κs. search needs) (λ c. omega arith) (λ c. omega arith) (λ c. omega arith) loop-again (λ c. omega arith)
-    (λ c. c .before .loop .inv))
+pub counters_spec : {M : Type 1} → statement M
+counters_spec = tie.close (tie.spec invariant_loop decreases_loop (λ c. reached-first _ _ _ _) (λ c. omega arith) (λ c. omega arith)
+    (λ c. omega arith) (λ c. omega arith) (λ c. omega arith) (λ c. omega arith) (λ c. omega arith) (λ c. omega arith) (λ c. omega arith)
+    (λ c. search rules) (λ c. search rules) (λ c. omega arith) (λ c. omega arith) (λ c. omega arith) loop_again (λ c. omega arith)
+    (λ c. c.loop-at.invariant))

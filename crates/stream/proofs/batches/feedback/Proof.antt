@@ -1,37 +1,33 @@
--- `stream::batches::feedback` meets its contract. The first block goes by itself (`fed-reached`), and a turn of the loop goes as many
--- blocks on as the batch has (`fed-on`), each from the block before it.
-use Rattle·stream·proofs.proofs.Names.{CfbDecrypt, Fed, _-_, arith, fed-first, fed-on, fed-reached, length, length-unwords, needs}
-use Rattle·stream·proofs.proofs.Names.{reached-first, streamMode}
-use Rattle·stream·proofs.proofs.Ahead.{cfb-fed}
-use Rattle·stream·proofs.proofs.batches.feedback.Statement.{statement}
-use Rattle·stream·proofs.proofs.batches.feedback.Tie as tie
+-- `stream::batches::feedback` meets its contract. The first block goes by itself (`fed_reached`), and a turn of the loop goes as many
+-- blocks on as the batch has (`fed_on`), each from the block before it.
+use Rattle.stream.proofs.Names.{CfbDecrypt, Fed, ◌-◌, arith, fed_first, fed_on, fed_reached, length, length-unwords, rules}
+use Rattle.stream.proofs.Names.{reached-first, stream_mode}
+use Rattle.stream.proofs.Ahead.{cfb_fed}
+use Rattle.stream.proofs.batches.feedback.Statement.{statement}
+use Rattle.stream.proofs.batches.feedback.Tie as tie
 
-abbrev Inv-loop : tie.InvT-loop
-Inv-loop t rk d out₀ at₀ out at = Fed (streamMode CfbDecrypt rk) d out₀ out at
+abbrev invariant_loop : tie.invariant-loop-at
+invariant_loop t rk d out₀ at₀ out at = Fed (stream_mode CfbDecrypt rk) d out₀ out at
 
-abbrev μ-loop : tie.MeasureT-loop
-μ-loop t rk d out₀ at₀ out at = length d - at
+abbrev decreases_loop : tie.decreases-loop-at
+decreases_loop t rk d out₀ at₀ out at = length d - at
 
-loop-again : tie.Need-loop-again Inv-loop μ-loop
-loop-again c =
-    let at-xored = c .before .before in
-    let at-next = at-xored .before .before .before .before in
-    let l = at-next .before .before .loop in
-    fed-on _ (cfb-fed _) _ _ (l .out) _ (l .at) (at-next .next-batch .result) (l .inv) (omega arith) (omega arith)
-    (at-xored .encrypt-xored .ensures)
+loop_again : tie.Need-loop-at-preserved invariant_loop decreases_loop
+loop_again c =
+    let l = c.loop-at in
+    fed_on _ (cfb_fed _) _ _ l.out _ l.at c.next_batch-m.result l.invariant (omega arith) (omega arith)
+    c.encrypt_xored.ensures
 
-returns-2 : tie.Need-returns-2 Inv-loop μ-loop
-returns-2 c =
-    let at-loop = c .before .before in
-    let l = at-loop .loop in
-    let at-step = at-loop .before .before .before in
-    let iv = at-step .before .before .before .before .before .before .args .iv in
-    rw (c .block-at .ensures) (fed-reached _ (cfb-fed _) _ _ _ _ (l .out) (l .at) (l .inv) (length-unwords iv) (omega arith) (omega arith)
-    (at-step .step .ensures .1))
+returns_2 : tie.Need-returns invariant_loop decreases_loop
+returns_2 c =
+    let l = c.loop-at in
+    let iv = c.args.iv in
+    rw c.block_at.ensures (fed_reached _ (cfb_fed _) _ _ _ _ l.out l.at l.invariant (length-unwords iv) (omega arith) (omega arith)
+    c.step.ensures.1)
 
-pub feedback-spec : {M : Type 1} → statement M
-feedback-spec = tie.close (tie.spec Inv-loop μ-loop (λ c. reached-first _ _ _ _) (λ c κs. search needs)
-    (λ c. fed-first _ _ _ (omega arith) (omega arith)) (λ c. omega arith) (λ c. omega arith) (λ c. omega arith) (λ c. omega arith)
+pub feedback_spec : {M : Type 1} → statement M
+feedback_spec = tie.close (tie.spec invariant_loop decreases_loop (λ c. reached-first _ _ _ _) (λ c. search rules)
+    (λ c. fed_first _ _ _ (omega arith) (omega arith)) (λ c. omega arith) (λ c. omega arith) (λ c. omega arith) (λ c. omega arith)
     (λ c. omega arith) (λ c. omega arith) (λ c. omega arith) (λ c. omega arith) (λ c. omega arith) (λ c. omega arith) (λ c. omega arith)
-    (λ c. omega arith) (λ c. omega arith) (λ c. search needs) (λ c. omega arith) (λ c. omega arith) (λ c. omega arith) loop-again
-    (λ c. omega arith) (λ c. omega arith) (λ c. omega arith) returns-2)
+    (λ c. omega arith) (λ c. omega arith) (λ c. search rules) (λ c. omega arith) (λ c. omega arith) (λ c. omega arith) loop_again
+    (λ c. omega arith) (λ c. omega arith) (λ c. omega arith) returns_2)

@@ -1,9 +1,9 @@
 -- `stream::few::ciphered` meets its contract, by its test.
-use Rattle·stream·proofs.proofs.Names.{_∙_, arith, inl, inr, needs, refl, sym}
-use Rattle·stream·proofs.proofs.Ahead.{untrue}
-use Rattle·stream·proofs.proofs.few.ciphered.Statement.{statement}
-use Rattle·stream·proofs.proofs.few.ciphered.Tie as tie
+use Rattle.stream.proofs.Names.{◌∙◌, arith, inl, inr, rules, refl, sym}
+use Rattle.stream.proofs.Ahead.{untrue}
+use Rattle.stream.proofs.few.ciphered.Statement.{statement}
+use Rattle.stream.proofs.few.ciphered.Tie as tie
 
-pub ciphered-spec : {M : Type 1} → statement M
-ciphered-spec = tie.close (tie.spec (λ c. search needs) (λ c. (inr refl, λ e. refl, omega (arith, c .before .pre .1 (c .if1 .taken))))
-    (λ c. (inl refl, λ e. untrue (sym (c .if1 .left) ∙ e), omega arith)))
+pub ciphered_spec : {M : Type 1} → statement M
+ciphered_spec = tie.close (tie.spec (λ c. search rules) (λ c. (inr refl, λ e. refl, omega (arith, c.requires.1 c.if-pad.true)))
+    (λ c. (inl refl, λ e. untrue (sym c.if-pad.false ∙ e), omega arith)))

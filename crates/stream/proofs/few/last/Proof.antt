@@ -1,31 +1,30 @@
 -- `stream::few::last` meets its contract: the walk comes behind the full blocks (`few-reached`), and the rest is xored with the pad behind
 -- them (`ended`), if there is one.
-use Rattle·stream·proofs.proofs.Names.{_*_, _/_, _∙_, _≡_, _≤_, ap, arith, encryptBlock, length, length-tailed, needs, now, sym, tailed}
-use Rattle·stream·proofs.proofs.Names.{true, unwords}
-use Rattle·stream·proofs.proofs.Ahead.{few-reached, rest-xored}
-use Rattle·stream·proofs.proofs.Walks.{ended}
-use Rattle·stream·proofs.proofs.few.last.Statement.{statement}
-use Rattle·stream·proofs.proofs.few.last.Tie as tie
+use Rattle.stream.proofs.Names.{◌*◌, ◌/◌, ◌∙◌, ◌≡◌, ◌≤◌, ap, arith, encrypt_block, length, length_tailed, rules, sym, tailed}
+use Rattle.stream.proofs.Names.{true, unwords}
+use Rattle.stream.proofs.Ahead.{few-reached, rest-xored}
+use Rattle.stream.proofs.Walks.{ended}
+use Rattle.stream.proofs.few.last.Statement.{statement}
+use Rattle.stream.proofs.few.last.Tie as tie
 
 returns : tie.Need-returns
 returns c =
-    let at-few = c .before .before .before .before .before .before .before .before .before in
-    let needed = at-few .before .before .pad-needed in
-    let a = at-few .before .before .before .before .before .args in
-    let d = now (a .«data») in
+    let needed = c.pad_needed in
+    let a = c.args in
+    let d = a.«data».now in
     let m = length d / 16 in
     let h : 16 * m ≤ length d = omega arith in
-    let f = at-few .few in
-    let x = f .ensures in
-    let done = few-reached (a .kind) (a .rk) (unwords (a .iv)) d m h (now (a .out)) _ _ (omega arith) (x .0) (x .1 .1) in
-    let pad : needed .result ≡ true → f .result .pad ≡ encryptBlock (a .rk) (unwords (f .result .state)) =
-    λ e. x .1 .0 e ∙ ap (encryptBlock (a .rk)) (sym (x .0)) in
-    let rest = rest-xored _ (tailed (16 * m) d) _ _ pad (λ e. omega (arith, length-tailed d (16 * m), needed .ensures .1 e)) in
-    ended (a .kind) (a .rk) done _ _ _ (omega arith) (λ e. pad (needed .ensures .0 e)) (rw rest at (c .before .before .xor-bytes .ensures))
+    let f = c.few-end in
+    let x = f.ensures in
+    let done = few-reached a.kind a.rk (unwords a.iv) d m h a.out.now _ _ (omega arith) x.0 x.1.1 in
+    let pad : needed.result ≡ true → f.result.pad ≡ encrypt_block a.rk (unwords f.result.state) =
+    λ e. x.1.0 e ∙ ap (encrypt_block a.rk) (sym x.0) in
+    let rest = rest-xored _ (tailed (16 * m) d) _ _ pad (λ e. omega (arith, length_tailed d (16 * m), needed.ensures.1 e)) in
+    ended a.kind a.rk done _ _ _ (omega arith) (λ e. pad (needed.ensures.0 e)) (rw rest at c.xor_bytes.ensures)
 
-pub last-spec : {M : Type 1} → statement M
-last-spec = tie.close (tie.spec (λ c κs. search needs) (λ c κs. search needs) (λ c. search needs) (λ c. search needs) (λ c. search needs)
-    (λ c. search needs) (λ c. search needs) (λ c. search needs) (λ c. search needs) (λ c. search needs)
-    (λ c κs. let p : length (c .before .before .before .before .before .before .few .result .pad) ≡ 16 = search needs in
+pub last_spec : {M : Type 1} → statement M
+last_spec = tie.close (tie.spec (λ c. search rules) (λ c. search rules) (λ c. search rules) (λ c. search rules) (λ c. search rules)
+    (λ c. search rules) (λ c. search rules) (λ c. search rules) (λ c. search rules) (λ c. search rules)
+    (λ c κs. let p : length c.few-end.result.pad ≡ 16 = search rules in
     (omega arith, omega arith))
-    (λ c. search needs) returns)
+    (λ c. search rules) returns)

@@ -1,38 +1,36 @@
 -- `stream::few::lay_counters` meets its contract. The loop's invariant: the first i counters are laid, and behind them stands what stood
 -- there.
-use Rattle·stream·proofs.proofs.Names.{_*_, _++_, _-_, _≡_, _≤_, arith, block-stored, cat, drop, jumped, length, length-unwords, needs}
-use Rattle·stream·proofs.proofs.Names.{over-stored, refl, unwords}
-use Rattle·stream·proofs.proofs.Ahead.{length-jumped}
-use Rattle·stream·proofs.proofs.few.lay_counters.Statement.{statement}
-use Rattle·stream·proofs.proofs.few.lay_counters.Tie as tie
+use Rattle.stream.proofs.Names.{◌*◌, ◌++◌, ◌-◌, ◌≡◌, ◌≤◌, arith, block-stored, cat, drop, jumped, length, length-unwords, rules}
+use Rattle.stream.proofs.Names.{over-stored, refl, unwords}
+use Rattle.stream.proofs.Ahead.{length-jumped}
+use Rattle.stream.proofs.few.lay_counters.Statement.{statement}
+use Rattle.stream.proofs.few.lay_counters.Tie as tie
 
-abbrev Inv-loop : tie.InvT-loop
-Inv-loop wide c n out₀ i₀ out i = (i ≤ n) × (length out ≡ length out₀) × (out ≡ cat i (jumped wide (unwords c)) ++ drop (16 * i) out₀)
+abbrev invariant_loop : tie.invariant-loop-i
+invariant_loop wide c n out₀ i₀ out i = (i ≤ n) × (length out ≡ length out₀) × (out ≡ cat i (jumped wide (unwords c)) ++ drop (16 * i) out₀)
 
-abbrev μ-loop : tie.MeasureT-loop
-μ-loop wide c n out₀ i₀ out i = n - i
+abbrev decreases_loop : tie.decreases-loop-i
+decreases_loop wide c n out₀ i₀ out i = n - i
 
-loop-again : tie.Need-loop-again Inv-loop μ-loop
-loop-again c =
-    let at-counter-after = c .before .before .before .before in
-    let at-loop = at-counter-after .before .before in
-    let l = at-loop .loop in
-    let a = at-loop .before .before .args in
-    let stored = block-stored (a .out .now) (l .out) _ (jumped (a .wide) (unwords (a .c))) (l .i)
-    (λ k h. length-jumped (a .wide) (unwords (a .c)) k (length-unwords (a .c))) (l .inv .2)
-    (rw (at-counter-after .counter-after .ensures) at (c .before .before .put-block .ensures)) in
-    (omega arith, search needs, stored)
+loop_again : tie.Need-loop-i-preserved invariant_loop decreases_loop
+loop_again c =
+    let l = c.loop-i in
+    let a = c.args in
+    let stored = block-stored a.out.now l.out _ (jumped a.wide (unwords a.c)) l.i
+    (λ k h. length-jumped a.wide (unwords a.c) k (length-unwords a.c)) l.invariant.2
+    (rw c.counter_after.ensures at c.put_block.ensures) in
+    (omega arith, search rules, stored)
 
-returns : tie.Need-returns Inv-loop μ-loop
+returns : tie.Need-returns invariant_loop decreases_loop
 returns c =
-    let l = c .before .loop in
-    let a = c .before .before .before .args in
-    let e : l .i ≡ a .n = omega arith in
-    over-stored (a .n) (jumped (a .wide) (unwords (a .c))) _ (l .out)
-    (λ k h. length-jumped (a .wide) (unwords (a .c)) k (length-unwords (a .c))) (rw e at (l .inv .2))
+    let l = c.loop-i in
+    let a = c.args in
+    let e : l.i ≡ a.n = omega arith in
+    over-stored a.n (jumped a.wide (unwords a.c)) _ l.out
+    (λ k h. length-jumped a.wide (unwords a.c) k (length-unwords a.c)) (rw e at l.invariant.2)
 
-pub lay-counters-spec : {M : Type 1} → statement M
+pub lay_counters_spec : {M : Type 1} → statement M
 unfolding cat
-lay-counters-spec = tie.close (tie.spec Inv-loop μ-loop (λ c. (search needs, refl, refl)) (λ c κs. search needs) (λ c. search needs)
-    (λ c. search needs) (λ c. search needs) (λ c. search needs) (λ c κs. search needs) (λ c. search needs) (λ c. search needs) loop-again
-    (λ c. search needs) returns)
+lay_counters_spec = tie.close (tie.spec invariant_loop decreases_loop (λ c. (search rules, refl, refl)) (λ c. search rules)
+    (λ c. search rules) (λ c. search rules) (λ c. search rules) (λ c. search rules) (λ c. search rules) (λ c. search rules)
+    (λ c. search rules) loop_again (λ c. search rules) returns)

@@ -1,17 +1,17 @@
 -- `vectors::fields::spelled` meets its contract. The loop's invariant: `i` is at most the length, no more digits were read than bytes,
 -- and `s` is as long as it was lent, so that each store lies inside. The measure is what is left of `s`.
-use Rattle·block.proofs.Base.{_-_, _≤_, _≡_, needs, length}
-use Rattle·vectors·proofs.proofs.fields.spelled.Statement.{statement}
-use Rattle·vectors·proofs.proofs.fields.spelled.Tie as tie
+use Rattle.block.proofs.Base.{◌-◌, ◌≤◌, ◌≡◌, rules, length}
+use Rattle.vectors.proofs.fields.spelled.Statement.{statement}
+use Rattle.vectors.proofs.fields.spelled.Tie as tie
 
-abbrev Inv-loop : tie.InvT-loop
-Inv-loop s₀ comment₀ byte₀ digits₀ i₀ i-end s comment byte digits i =
+abbrev invariant_loop : tie.invariant-loop-i
+invariant_loop s₀ comment₀ byte₀ digits₀ i₀ i-end s comment byte digits i =
     (i ≤ i-end) × (digits ≤ i) × (i-end ≡ length s₀) × (length s ≡ length s₀)
 
-abbrev μ-loop : tie.MeasureT-loop
-μ-loop s₀ comment₀ byte₀ digits₀ i₀ i-end s comment byte digits i = i-end - i
+abbrev decreases_loop : tie.decreases-loop-i
+decreases_loop s₀ comment₀ byte₀ digits₀ i₀ i-end s comment byte digits i = i-end - i
 
-pub spelled-spec : {M : Type 1} → statement M
-spelled-spec = tie.close (tie.spec Inv-loop μ-loop (λ c. search needs) (λ c. search needs) (λ c κs. search needs) (λ c κs. search needs)
-    (λ c κs. search needs) (λ c. search needs) (λ c κs. search needs) (λ c. search needs) (λ c. search needs) (λ c. search needs)
-    (λ c. search needs) (λ c. search needs) (λ c. search needs))
+pub spelled_spec : {M : Type 1} → statement M
+spelled_spec = tie.close (tie.spec invariant_loop decreases_loop (λ c. search rules) (λ c. search rules) (λ c. search rules) (λ c. search rules)
+    (λ c. search rules) (λ c. search rules) (λ c. search rules) (λ c. search rules) (λ c. search rules) (λ c. search rules)
+    (λ c. search rules) (λ c. search rules) (λ c. search rules))

@@ -1,15 +1,15 @@
 -- `vectors::independent::product` is safe and ends. The loop's invariant is that at most 32 turns have gone by, and the measure
 -- is the number of turns left.
-use Rattle·block.proofs.Base.{_-_, _≤_, needs}
-use Rattle·vectors·proofs.proofs.independent.product.Statement.{statement}
-use Rattle·vectors·proofs.proofs.independent.product.Tie as tie
+use Rattle.block.proofs.Base.{◌-◌, ◌≤◌, rules}
+use Rattle.vectors.proofs.independent.product.Statement.{statement}
+use Rattle.vectors.proofs.independent.product.Tie as tie
 
-abbrev Inv-loop : tie.InvT-loop
-Inv-loop a b modulus sum₀ moved₀ rest₀ counter₀ sum moved rest counter = counter ≤ 32
+abbrev invariant_loop : tie.invariant-loop
+invariant_loop a b modulus sum₀ moved₀ rest₀ counter₀ sum moved rest counter = counter ≤ 32
 
-abbrev μ-loop : tie.MeasureT-loop
-μ-loop a b modulus sum₀ moved₀ rest₀ counter₀ sum moved rest counter = 32 - counter
+abbrev decreases_loop : tie.decreases-loop
+decreases_loop a b modulus sum₀ moved₀ rest₀ counter₀ sum moved rest counter = 32 - counter
 
-pub product-spec : {M : Type 1} → statement M
-product-spec = tie.close (tie.spec Inv-loop μ-loop (λ c. search needs) (λ c κs. search needs) (λ c κs. search needs) (λ c. search needs)
-    (λ c. search needs) (λ c. search needs) (λ c. search needs))
+pub product_spec : {M : Type 1} → statement M
+product_spec = tie.close (tie.spec invariant_loop decreases_loop (λ c. search rules) (λ c. search rules) (λ c. search rules) (λ c. search rules)
+    (λ c. search rules) (λ c. search rules) (λ c. search rules))

@@ -1,16 +1,16 @@
 -- `vectors::independent::tables` is safe and ends. The loop's invariant: `i` is at most 256, and the table has its 512 entries, so
 -- that both stores lie inside. The measure is the number of turns left.
-use Rattle·block.proofs.Base.{_-_, _≤_, _≡_, needs, length}
-use Rattle·vectors·proofs.proofs.independent.tables.Statement.{statement}
-use Rattle·vectors·proofs.proofs.independent.tables.Tie as tie
+use Rattle.block.proofs.Base.{◌-◌, ◌≤◌, ◌≡◌, rules, length}
+use Rattle.vectors.proofs.independent.tables.Statement.{statement}
+use Rattle.vectors.proofs.independent.tables.Tie as tie
 
-abbrev Inv-loop : tie.InvT-loop
-Inv-loop t₀ i₀ t i = (i ≤ 256) × (length t ≡ 512)
+abbrev invariant_loop : tie.invariant-loop-i
+invariant_loop t₀ i₀ t i = (i ≤ 256) × (length t ≡ 512)
 
-abbrev μ-loop : tie.MeasureT-loop
-μ-loop t₀ i₀ t i = 256 - i
+abbrev decreases_loop : tie.decreases-loop-i
+decreases_loop t₀ i₀ t i = 256 - i
 
-pub tables-spec : {M : Type 1} → statement M
-tables-spec = tie.close (tie.spec Inv-loop μ-loop (λ c. search needs) (λ c κs. search needs) (λ c. search needs) (λ c. search needs)
-    (λ c κs. search needs) (λ c. search needs) (λ c. search needs) (λ c. search needs) (λ c. search needs) (λ c. search needs)
-    (λ c. search needs) (λ c. search needs))
+pub tables_spec : {M : Type 1} → statement M
+tables_spec = tie.close (tie.spec invariant_loop decreases_loop (λ c. search rules) (λ c. search rules) (λ c. search rules) (λ c. search rules)
+    (λ c. search rules) (λ c. search rules) (λ c. search rules) (λ c. search rules) (λ c. search rules) (λ c. search rules)
+    (λ c. search rules) (λ c. search rules))

@@ -1,15 +1,15 @@
 -- `vectors::independent::times` is safe and ends. The loop's invariant is that at most 128 turns have gone by, and the measure
 -- is the number of turns left.
-use Rattle·block.proofs.Base.{_-_, _≤_, needs}
-use Rattle·vectors·proofs.proofs.independent.times.Statement.{statement}
-use Rattle·vectors·proofs.proofs.independent.times.Tie as tie
+use Rattle.block.proofs.Base.{◌-◌, ◌≤◌, rules}
+use Rattle.vectors.proofs.independent.times.Statement.{statement}
+use Rattle.vectors.proofs.independent.times.Tie as tie
 
-abbrev Inv-loop : tie.InvT-loop
-Inv-loop b rest₀ sum₀ counter₀ rest sum counter = counter ≤ 128
+abbrev invariant_loop : tie.invariant-loop
+invariant_loop b rest₀ sum₀ counter₀ rest sum counter = counter ≤ 128
 
-abbrev μ-loop : tie.MeasureT-loop
-μ-loop b rest₀ sum₀ counter₀ rest sum counter = 128 - counter
+abbrev decreases_loop : tie.decreases-loop
+decreases_loop b rest₀ sum₀ counter₀ rest sum counter = 128 - counter
 
-pub times-spec : {M : Type 1} → statement M
-times-spec = tie.close (tie.spec Inv-loop μ-loop (λ c κs. search needs) (λ c. search needs) (λ c κs. search needs) (λ c κs. search needs)
-    (λ c κs. search needs) (λ c κs. search needs) (λ c. search needs) (λ c. search needs) (λ c. search needs) (λ c. search needs))
+pub times_spec : {M : Type 1} → statement M
+times_spec = tie.close (tie.spec invariant_loop decreases_loop (λ c. search rules) (λ c. search rules) (λ c. search rules) (λ c. search rules)
+    (λ c. search rules) (λ c. search rules) (λ c. search rules) (λ c. search rules) (λ c. search rules) (λ c. search rules))

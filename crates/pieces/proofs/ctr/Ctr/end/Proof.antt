@@ -1,27 +1,22 @@
 -- `pieces::ctr::Ctr::end` meets its contract: a state that does not run is refused, and one that runs is shut, and tells what the formula
 -- says of the first counter, whose words spell it.
-use Rattle·pieces·proofs.proofs.Names.{arith, ctrEnd, needs}
-use Rattle·pieces·proofs.proofs.Fitting.{Sixteen, spelt}
-use Rattle·pieces·proofs.proofs.ctr.Ctr.end.Statement.{statement}
-use Rattle·pieces·proofs.proofs.ctr.Ctr.end.Tie as tie
+use Rattle.pieces.proofs.Names.{◌≡◌, arith, ctr_end, length, rules}
+use Rattle.pieces.proofs.Fitting.{Sixteen, spelt}
+use Rattle.pieces.proofs.ctr.Ctr.end.Statement.{statement}
+use Rattle.pieces.proofs.ctr.Ctr.end.Tie as tie
 
-first : (s : tie.Start) → Sixteen (s .args .self .first)
-first s = (search needs, λ i. search needs)
+returns_2 : tie.Need-returns
+unfolding ctr_end
+returns_2 c =
+    let first : Sixteen c.args.self.first = (search rules, λ i. search rules) in
+    let is-first = spelt c.args.self.first first in
+    rw (← c.running-checked.ensures, c.in_default.is, c.done_round.ensures, c.ctr_came_round-came_round.ensures)
+    (rw (c.split_block.ensures, is-first, c.shut.ensures))
 
-returns-2 : tie.Need-returns-2
-unfolding ctrEnd
-returns-2 c =
-    let at-round = c .before .before in
-    let told = at-round .before .before .before .before in
-    let at-check = told .before .before in
-    let is-first = spelt (at-check .before .args .self .first) (first (at-check .before)) in
-    rw (← at-check .running .ensures, told .enum-told .given .1, c .before .done-round .ensures, at-round .ctr-came-round .ensures)
-    (rw (at-round .before .split-block .ensures, is-first, c .shut .ensures))
-
-pub end-spec : {M : Type 1} → statement M
-unfolding ctrEnd
-end-spec = tie.close (tie.spec (λ c. search needs) (λ c. search needs) (λ c. search needs)
-    (λ c. let told = c .before .before in rw (← told .before .before .running .ensures, told .checked .given .1, c .refused .ensures))
-    (λ c. search needs) (λ c. search needs) (λ c κs. let n = first (c .before .before .before .before .before) .0 in omega arith)
-    (λ c. search needs)
-    (λ c. search needs) (λ c. search needs) returns-2)
+pub end_spec : {M : Type 1} → statement M
+unfolding ctr_end
+end_spec = tie.close (tie.spec (λ c. search rules) (λ c. search rules) (λ c. search rules)
+    (λ c. rw (← c.running-checked.ensures, c.in-Refused.is, c.refused.ensures))
+    (λ c. search rules) (λ c. search rules) (λ c. let n : length c.args.self.first ≡ 16 = search rules in omega arith)
+    (λ c. search rules)
+    (λ c. search rules) (λ c. search rules) returns_2)

@@ -1,20 +1,14 @@
 -- `pieces::ctr::Ctr::piece` meets its contract: what the checks refuse leaves output and state, and otherwise the flow runs on.
-use Rattle·pieces·proofs.proofs.Names.{_∙_, _≤_, ctrPiece, length, lit<, mod-lt, needs, now, sym}
-use Rattle·pieces·proofs.proofs.Passing.{Runs, sum-fits, writing-passed}
-use Rattle·pieces·proofs.proofs.ctr.Ctr.piece.Statement.{statement}
-use Rattle·pieces·proofs.proofs.ctr.Ctr.piece.Tie as tie
+use Rattle.pieces.proofs.Names.{◌∙◌, ctr_piece, lit<, mod-lt, rules, sym}
+use Rattle.pieces.proofs.Passing.{sum_fits, writing_passed}
+use Rattle.pieces.proofs.ctr.Ctr.piece.Statement.{statement}
+use Rattle.pieces.proofs.ctr.Ctr.piece.Tie as tie
 
-passed : (x : tie.After-enum-told)
-    → let a = x .before .before .before .before .before .args in
-    Runs (a .self .stands) 0 (a .self .total) (length (now (a .«data»))) × (length (now (a .«data»)) ≤ length (now (a .out)))
-passed x = writing-passed _ _ _ _ _ _ (sym (x .before .before .writing .ensures) ∙ x .enum-told .given .1)
-
-pub piece-spec : {M : Type 1} → statement M
-unfolding ctrPiece
-piece-spec = tie.close (tie.spec (λ c. search needs) (λ c. search needs) (λ c. search needs)
-    (λ c. let told = c .before .before in rw (← told .before .before .writing .ensures, told .checked .given .1, c .refused .ensures))
-    (λ c. search needs) (λ c κs. (mod-lt _ (lit< tt), passed (c .before .before .before .before) .1))
-    (λ c. sum-fits (passed (c .before .before .before .before .before .before .before) .0)) (λ c. search needs) (λ c. search needs)
-    (λ c. let ran = c .before .before .before .run-by .ensures in
-    let told = c .before .before .before .before .before .before .before .before in
-    rw (← told .before .before .writing .ensures, told .enum-told .given .1, c .done .ensures, ran .0, ran .1)))
+pub piece_spec : {M : Type 1} → statement M
+unfolding ctr_piece
+piece_spec = tie.close (tie.spec (λ c. search rules) (λ c. search rules) (λ c. search rules)
+    (λ c. rw (← c.writing-checked.ensures, c.in-Refused.is, c.refused.ensures))
+    (λ c. search rules) (λ c _. (mod-lt _ (lit< tt), (writing_passed _ _ _ _ _ _ (sym c.writing-checked.ensures ∙ c.in_default.is)).1))
+    (λ c. sum_fits (writing_passed _ _ _ _ _ _ (sym c.writing-checked.ensures ∙ c.in_default.is)).0) (λ c. search rules) (λ c. search rules)
+    (λ c. let ran = c.run_by-next.ensures in
+    rw (← c.writing-checked.ensures, c.in_default.is, c.done.ensures, ran.0, ran.1)))

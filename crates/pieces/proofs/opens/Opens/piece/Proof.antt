@@ -1,16 +1,14 @@
 -- `pieces::opens::Opens::piece` meets its contract: what the checks refuse leaves the state, and otherwise the piece is hashed.
-use Rattle·pieces·proofs.proofs.Names.{_∙_, needs, opensPiece, sym}
-use Rattle·pieces·proofs.proofs.Passing.{sum-fits, running-passed}
-use Rattle·pieces·proofs.proofs.opens.Opens.piece.Statement.{statement}
-use Rattle·pieces·proofs.proofs.opens.Opens.piece.Tie as tie
+use Rattle.pieces.proofs.Names.{◌∙◌, rules, opens_piece, sym}
+use Rattle.pieces.proofs.Passing.{sum_fits, running_passed}
+use Rattle.pieces.proofs.opens.Opens.piece.Statement.{statement}
+use Rattle.pieces.proofs.opens.Opens.piece.Tie as tie
 
-pub piece-spec : {M : Type 1} → statement M
-unfolding opensPiece
-piece-spec = tie.close (tie.spec (λ c. search needs) (λ c. search needs) (λ c. search needs)
-    (λ c. let told = c .before .before in rw (← told .before .before .running .ensures, told .checked .given .1, c .refused .ensures))
-    (λ c. search needs) (λ c. search needs)
-    (λ c. let told = c .before .before .before in
-    sum-fits (running-passed _ _ _ _ (sym (told .before .before .running .ensures) ∙ told .enum-told .given .1)))
-    (λ c. search needs)
-    (λ c. let told = c .before .before .before .before in
-    rw (← told .before .before .running .ensures, told .enum-told .given .1, c .done .ensures, c .before .take-in .ensures)))
+pub piece_spec : {M : Type 1} → statement M
+unfolding opens_piece
+piece_spec = tie.close (tie.spec (λ c. search rules) (λ c. search rules) (λ c. search rules)
+    (λ c. rw (← c.running-checked.ensures, c.in-Refused.is, c.refused.ensures))
+    (λ c. search rules) (λ c. search rules)
+    (λ c. sum_fits (running_passed _ _ _ _ (sym c.running-checked.ensures ∙ c.in_default.is)))
+    (λ c. search rules)
+    (λ c. rw (← c.running-checked.ensures, c.in_default.is, c.done.ensures, c.take_in.ensures)))

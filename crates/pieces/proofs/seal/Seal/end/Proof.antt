@@ -1,34 +1,24 @@
 -- `pieces::seal::Seal::end` meets its contract: what the checks refuse leaves output and state, and otherwise the tag is written and
 -- the state is shut.
-use Rattle·pieces·proofs.proofs.Names.{_∙_, _≡_, _≤_, arith, length, lit<, mod-lt, needs, now, sealEnd, sym}
-use Rattle·pieces·proofs.proofs.Passing.{Runs, both-hashable, writing-passed}
-use Rattle·pieces·proofs.proofs.seal.Seal.end.Statement.{statement}
-use Rattle·pieces·proofs.proofs.seal.Seal.end.Tie as tie
+use Rattle.pieces.proofs.Names.{◌∙◌, ◌≡◌, ◌≤◌, arith, length, lit<, mod-lt, rules, seal_end, sym}
+use Rattle.pieces.proofs.Passing.{both_hashable, writing_passed}
+use Rattle.pieces.proofs.seal.Seal.end.Statement.{statement}
+use Rattle.pieces.proofs.seal.Seal.end.Tie as tie
 
-passed : (x : tie.After-enum-told)
-    → let a = x .before .before .before .before .args in
-    Runs (a .self .stands) (a .self .label) (a .self .total) 0 × (16 ≤ length (now (a .out)))
-passed x = writing-passed _ _ _ _ _ _ (sym (x .before .before .writing .ensures) ∙ x .enum-told .given .1)
+returns_2 : tie.Need-returns
+unfolding seal_end
+returns_2 c =
+    rw (← c.writing-checked.ensures, c.in_default.is, c.done_round.ensures)
+    (rw (c.gcm_came_round-came_round.ensures, c.xor_pad.ensures, c.end-hash.ensures, c.shut.ensures))
 
-mask-length : (s : tie.Start) → length (s .args .self .mask) ≡ 16
-mask-length s = search needs
-
-returns-2 : tie.Need-returns-2
-unfolding sealEnd
-returns-2 c =
-    let at-round = c .before .before in
-    let at-tag = at-round .before .before .before in
-    let at-end = at-tag .before .before .before in
-    let told = at-end .before .before .before in
-    rw (← told .before .before .writing .ensures, told .enum-told .given .1, c .before .done-round .ensures)
-    (rw (at-round .gcm-came-round .ensures, at-tag .xor-pad .ensures, at-end .end .ensures, c .shut .ensures))
-
-pub end-spec : {M : Type 1} → statement M
-unfolding sealEnd
-end-spec = tie.close (tie.spec (λ c. search needs) (λ c. search needs) (λ c. search needs)
-    (λ c. let told = c .before .before in rw (← told .before .before .writing .ensures, told .checked .given .1, c .refused .ensures))
-    (λ c. search needs) (λ c κs. (mod-lt _ (lit< tt), both-hashable (passed (c .before .before) .0))) (λ c. search needs)
-    (λ c κs. let told = c .before .before .before .before .before in
-    let room = passed told .1 in
-    let n = mask-length (told .before .before .before .before) in (omega arith, omega arith))
-    (λ c. search needs) (λ c. search needs) (λ c. search needs) (λ c. search needs) returns-2)
+pub end_spec : {M : Type 1} → statement M
+unfolding seal_end
+end_spec = tie.close (tie.spec (λ c. search rules) (λ c. search rules) (λ c. search rules)
+    (λ c. rw (← c.writing-checked.ensures, c.in-Refused.is, c.refused.ensures))
+    (λ c. search rules)
+    (λ c _. (mod-lt _ (lit< tt), both_hashable (writing_passed _ _ _ _ _ _ (sym c.writing-checked.ensures ∙ c.in_default.is)).0))
+    (λ c. search rules)
+    (λ c _. let room : 16 ≤ length c.args.out.now =
+    (writing_passed _ _ _ _ _ _ (sym c.writing-checked.ensures ∙ c.in_default.is)).1 in
+    let n : length c.args.self.mask ≡ 16 = search rules in (omega arith, omega arith))
+    (λ c. search rules) (λ c. search rules) (λ c. search rules) (λ c. search rules) returns_2)

@@ -1,9 +1,0 @@
--- `cipher_mode::Sm4CipherMode::new` meets its contract: it is the key's record beside the mode.
-use Rattle·cipher_mode·specs.specs.Key.{newCipherMode}
-use Rattle·block.proofs.Base.{needs}
-use Rattle·cipher_mode·proofs.proofs.Sm4CipherMode.new.Statement.{statement}
-use Rattle·cipher_mode·proofs.proofs.Sm4CipherMode.new.Tie as tie
-
-pub new-spec : {M : Type 1} → statement M
-unfolding newCipherMode
-new-spec = tie.close (tie.spec (λ c κs. search needs) (λ c. rw (c .new .ensures)))

@@ -1,9 +1,0 @@
--- `cipher_mode::checks::encrypted_length` meets its contract: in each arm the mode is known, and the table gives that arm.
-use Rattle·block.proofs.Base.{needs}
-use Rattle·cipher_mode·proofs.proofs.checks.encrypted_length.Statement.{statement}
-use Rattle·cipher_mode·proofs.proofs.checks.encrypted_length.Tie as tie
-
-pub encrypted-length-spec : {M : Type 1} → statement M
-encrypted-length-spec = tie.close (tie.spec (λ c. search needs) (λ c. search needs) (λ c. search needs) (λ c. search needs)
-    (λ c. search needs) (λ c. search needs) (λ c. search needs) (λ c. search needs) (λ c. search needs) (λ c. search needs)
-    (λ c. search needs) (λ c. rw (c .enum-told4 .given .1)) (λ c. rw (c .enum-told5 .given .1)))

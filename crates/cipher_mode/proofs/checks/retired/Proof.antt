@@ -1,8 +1,0 @@
--- `cipher_mode::checks::retired` meets its contract: a key that is retired is refused where it was to encrypt.
-use Rattle·block.proofs.Base.{needs}
-use Rattle·cipher_mode·proofs.proofs.checks.retired.Statement.{statement}
-use Rattle·cipher_mode·proofs.proofs.checks.retired.Tie as tie
-
-pub retired-spec : {M : Type 1} → statement M
-retired-spec = tie.close (tie.spec (λ c. search needs) (λ c. search needs) (λ c. search needs)
-    (λ c. rw (c .before .enum-told .given .1, c .if1 .taken)) (λ c. search needs))

@@ -1,9 +1,0 @@
--- `cipher_mode::engine_for` meets its contract: the mark's engine, where the blocks wait or do not.
-use Rattle·block.proofs.Base.{_∙_, ap, needs}
-use Rattle·cipher.specs.Engine.{chosen}
-use Rattle·cipher_mode·proofs.proofs.engine_for.Statement.{statement}
-use Rattle·cipher_mode·proofs.proofs.engine_for.Tie as tie
-
-pub engine-for-spec : {M : Type 1} → statement M
-engine-for-spec = tie.close (tie.spec (λ c κs. search needs) (λ c κs. search needs)
-    (λ c. c .engine-of .ensures ∙ ap (chosen (c .before .before .args .mark)) (c .before .waits .ensures)))

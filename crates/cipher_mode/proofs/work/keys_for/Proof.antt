@@ -1,8 +1,0 @@
--- `cipher_mode::work::keys_for` meets its contract: in each arm the direction is known, and the definition gives that arm.
-use Rattle·block.proofs.Base.{needs}
-use Rattle·cipher_mode·proofs.proofs.work.keys_for.Statement.{statement}
-use Rattle·cipher_mode·proofs.proofs.work.keys_for.Tie as tie
-
-pub keys-for-spec : {M : Type 1} → statement M
-keys-for-spec = tie.close (tie.spec (λ c. search needs) (λ c. search needs) (λ c κs. search needs) (λ c. search needs)
-    (λ c. rw (c .before .enum-told2 .given .1) (c .reversed .ensures)))

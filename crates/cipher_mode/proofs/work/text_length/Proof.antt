@@ -1,9 +1,0 @@
--- `cipher_mode::work::text_length` meets its contract: in each arm the direction is known.
-use Rattle·block.proofs.Base.{refl, arith, needs}
-use Rattle·cipher_mode·proofs.proofs.work.text_length.Statement.{statement}
-use Rattle·cipher_mode·proofs.proofs.work.text_length.Tie as tie
-
-pub text-length-spec : {M : Type 1} → statement M
-text-length-spec = tie.close (tie.spec (λ c. search needs) (λ c. search needs)
-    (λ c. omega (arith, c .before .before .pre (c .enum-told2 .given .1))) (λ c. (λ e. refl, λ e. cc (c .enum-told .given .1)))
-    (λ c. (λ e. cc (c .enum-told2 .given .1), λ e. refl)))

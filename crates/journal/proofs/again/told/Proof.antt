@@ -1,9 +1,0 @@
--- `again::told` meets its contract: done tells its length, and a refusal its number.
-use Rattle·journal·proofs.proofs.Names.{needs, refuses}
-use Rattle·journal·proofs.proofs.again.told.Statement.{statement}
-use Rattle·journal·proofs.proofs.again.told.Tie as tie
-
-pub told-spec : {M : Type 1} → statement M
-told-spec =
-    tie.close (tie.spec (λ c. search needs) (λ c. search needs) (λ c κs. search needs) (λ c. rw (c .before .ending .given .1))
-    (λ c. let e = c .before .before .ending2 .given in rw (e .1, c .number .ensures, refuses (e .0 .0) .no-size)))

@@ -1,8 +1,0 @@
--- `records::data` meets its contract.
-use Rattle·journal·proofs.proofs.Names.{needs}
-use Rattle·journal·proofs.proofs.records.data.Statement.{statement}
-use Rattle·journal·proofs.proofs.records.data.Tie as tie
-
-pub data-spec : {M : Type 1} → statement M
-data-spec = tie.close (tie.spec (λ c κs. search needs) (λ c κs. rw (c .from-data .ensures) (c .before .before .pre .«data»))
-    (λ c. rw (c .part-at .ensures, c .before .from-data .ensures)))

@@ -1,8 +1,0 @@
--- `records::from_data` meets its contract.
-use Rattle·journal·proofs.proofs.Names.{needs}
-use Rattle·journal·proofs.proofs.records.from_data.Statement.{statement}
-use Rattle·journal·proofs.proofs.records.from_data.Tie as tie
-
-pub from-data-spec : {M : Type 1} → statement M
-from-data-spec = tie.close (tie.spec (λ c κs. search needs) (λ c κs. rw (c .from-label .ensures) (c .before .before .pre .label))
-    (λ c. rw (c .behind .ensures, c .before .from-label .ensures)))

@@ -1,8 +1,0 @@
--- `records::from_iv` meets its contract.
-use Rattle·journal·proofs.proofs.Names.{needs}
-use Rattle·journal·proofs.proofs.records.from_iv.Statement.{statement}
-use Rattle·journal·proofs.proofs.records.from_iv.Tie as tie
-
-pub from-iv-spec : {M : Type 1} → statement M
-from-iv-spec = tie.close (tie.spec (λ c κs. search needs) (λ c κs. rw (c .from-data .ensures) (c .before .before .pre .«data»))
-    (λ c. rw (c .behind .ensures, c .before .from-data .ensures)))

@@ -1,8 +1,0 @@
--- `records::label` meets its contract.
-use Rattle·journal·proofs.proofs.Names.{needs}
-use Rattle·journal·proofs.proofs.records.label.Statement.{statement}
-use Rattle·journal·proofs.proofs.records.label.Tie as tie
-
-pub label-spec : {M : Type 1} → statement M
-label-spec = tie.close (tie.spec (λ c κs. search needs) (λ c κs. rw (c .from-label .ensures) (c .before .before .pre .label))
-    (λ c. rw (c .part-at .ensures, c .before .from-label .ensures)))

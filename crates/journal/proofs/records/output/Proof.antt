@@ -1,8 +1,0 @@
--- `records::output` meets its contract.
-use Rattle·journal·proofs.proofs.Names.{needs}
-use Rattle·journal·proofs.proofs.records.output.Statement.{statement}
-use Rattle·journal·proofs.proofs.records.output.Tie as tie
-
-pub output-spec : {M : Type 1} → statement M
-output-spec = tie.close (tie.spec (λ c κs. search needs) (λ c κs. rw (c .from-output .ensures) (c .before .before .pre .output))
-    (λ c. rw (c .part-at .ensures, c .before .from-output .ensures)))
