@@ -21,7 +21,7 @@ ghost use Rattle.carryless.specs.Lent.{Quarters, Lends, PartsOf, words128};
 use block::U128;
 
 // A number of 256 bits in four words, w3 the highest.
-#[derive(Drop)]
+#[derive(Clone, Copy)]
 pub struct Product {
     pub w3: u64,
     pub w2: u64,

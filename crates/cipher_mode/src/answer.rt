@@ -26,7 +26,7 @@ pub enum Refusal {
 }
 
 // How a call ended: done with a length, or refused.
-#[derive(Drop)]
+#[derive(Clone, Copy)]
 pub enum Ending {
     Done(usize),
     Refused(Refusal),
@@ -34,7 +34,7 @@ pub enum Ending {
 
 // How it ended; whether the counter of the message came round, which a refusal never says; and the number of the key that it was
 // made on: 0 where no key stands.
-#[derive(Drop)]
+#[derive(Clone, Copy)]
 pub struct Answer {
     pub ending: Ending,
     pub came_round: bool,

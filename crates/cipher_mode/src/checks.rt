@@ -13,14 +13,14 @@ pub const LIMIT: usize = 16777216;
 // The longest data to decrypt in Cbc and Gcm: a block more.
 pub const SEALED_LIMIT: usize = 16777232;
 
-#[derive(Drop)]
+#[derive(Clone, Copy)]
 pub enum Checked {
     Passed,
     Refused(Refusal),
 }
 
 // How many bytes a call was lent of each kind.
-#[derive(Drop)]
+#[derive(Clone, Copy)]
 pub struct Lengths {
     pub iv: usize,
     pub label: usize,

@@ -17,7 +17,7 @@ use padding::Opened;
 use stream::Kind;
 
 // How work ended, and whether the counter of the message came round.
-#[derive(Drop)]
+#[derive(Clone, Copy)]
 pub struct Worked {
     pub ending: Ending,
     pub came_round: bool,

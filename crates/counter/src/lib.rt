@@ -10,7 +10,7 @@ ghost use Rattle.counter.specs.Counter.{ctr_jump, ctr_next, ctr_passes, gcm_jump
 ghost use Rattle.counter.specs.CameRound.{blocks_of, ctr_came_round, gcm_came_round};
 
 // The next counter, and whether the step to it passed from all ones to zero.
-#[derive(Drop)]
+#[derive(Clone, Copy)]
 pub struct Next {
     pub counter: [u32; 4],
     pub came_round: bool,

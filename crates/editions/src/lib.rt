@@ -33,7 +33,7 @@ pub enum Ended {
 
 // How it ended; the number of the key that it was asked of, 0 where no key stands; the candidate's place, counted from 0, and
 // its part of the lent buffer. Place, start and length are 0 unless it ended with a candidate.
-#[derive(Drop)]
+#[derive(Clone, Copy)]
 pub struct Found {
     pub ended: Ended,
     pub key: u16,

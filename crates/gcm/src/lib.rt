@@ -110,7 +110,7 @@ fn pads_from(rk: [u32; 32], j0: [u32; 4], n: usize) -> [u8; 512]
 }
 
 // What a message starts with: H, J0, and, where they are ready, the pads of its text.
-#[derive(Drop)]
+#[derive(Clone, Copy)]
 pub struct Begun {
     pub h: U128,
     pub j0: [u32; 4],

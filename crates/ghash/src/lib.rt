@@ -62,7 +62,7 @@ pub fn block_count(n: usize) -> usize
 const LANES_FROM: usize = 256;
 
 // The hash on its way: the key H, and the hash of the blocks so far.
-#[derive(Drop)]
+#[derive(Clone, Copy)]
 pub struct Ghash {
     pub h: U128,
     pub y: U128,

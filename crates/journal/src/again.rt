@@ -19,7 +19,7 @@ pub(crate) struct Answered {
 }
 
 // What it answered, and whether that is something else than was recorded.
-#[derive(Drop)]
+#[derive(Clone, Copy)]
 pub(crate) struct Recomputed {
     pub number: u32,
     pub length: usize,

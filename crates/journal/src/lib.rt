@@ -33,7 +33,7 @@ pub enum Ended {
 
 // How it ended; the place of the first byte of the record that was refused, 0 where none was; and the report of the records
 // before it.
-#[derive(Drop)]
+#[derive(Clone, Copy)]
 pub struct Replayed {
     pub ended: Ended,
     pub place: usize,

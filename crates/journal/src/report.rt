@@ -7,7 +7,7 @@ use crate::again::Recomputed;
 use crate::records;
 
 // The first record that differs: whether there is one, how many records are before it, and the place of its first byte.
-#[derive(Drop)]
+#[derive(Clone, Copy)]
 pub struct Difference {
     pub found: bool,
     pub index: u64,
@@ -16,7 +16,7 @@ pub struct Difference {
 
 // How many records there were; how many in each mode, those of no known mode last; how many with each recomputed number; the
 // bytes of data that went in, of refused calls too, and those that came out.
-#[derive(Drop)]
+#[derive(Clone, Copy)]
 pub struct Report {
     pub records: u64,
     pub by_mode: [u64; 6],

@@ -20,7 +20,7 @@ pub struct Call {
 }
 
 // How many bytes were written; or a part or the output is past its limit; or the record does not fit.
-#[derive(Drop)]
+#[derive(Clone, Copy)]
 pub enum Wrote {
     Done(usize),
     TooLong,

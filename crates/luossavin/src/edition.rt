@@ -12,7 +12,7 @@ use cipher_mode::Direction;
 
 // The six bytes of a label.
 #[repr(C)]
-#[derive(Drop)]
+#[derive(Clone, Copy)]
 pub struct LuossavinLabel {
     pub bytes: [u8; 6],
 }

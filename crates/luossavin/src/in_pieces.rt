@@ -13,21 +13,21 @@ use pieces::ctr::Ctr;
 use pieces::{ctr, opens, seal};
 
 #[repr(C)]
-#[derive(Drop)]
+#[derive(Clone, Copy)]
 pub struct LuossavinCtrStep {
     pub answer: LuossavinAnswer,
     pub state: Ctr,
 }
 
 #[repr(C)]
-#[derive(Drop)]
+#[derive(Clone, Copy)]
 pub struct LuossavinSealStep {
     pub answer: LuossavinAnswer,
     pub state: seal::Seal,
 }
 
 #[repr(C)]
-#[derive(Drop)]
+#[derive(Clone, Copy)]
 pub struct LuossavinOpensStep {
     pub answer: LuossavinAnswer,
     pub state: opens::Opens,

@@ -14,7 +14,7 @@ use journal::{Replayed, writer};
 
 // The first `count` records; the others are not looked at.
 #[repr(C)]
-#[derive(Drop)]
+#[derive(Clone, Copy)]
 pub struct LuossavinKeys {
     pub count: usize,
     pub keys: [LuossavinKey; 8],
@@ -24,7 +24,7 @@ pub struct LuossavinKeys {
 // where a record differs, how many records are before the first that does, and its place; and the totals. Where there is no such
 // record, what is said of it is 0.
 #[repr(C)]
-#[derive(Drop)]
+#[derive(Clone, Copy)]
 pub struct LuossavinReplayed {
     pub number: u32,
     pub differs: u32,

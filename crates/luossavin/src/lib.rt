@@ -24,7 +24,7 @@ use key::{LuossavinKey, cipher_of};
 // The number, how many bytes were missing where that is refusal 9, 1 where the counter of a message came round, the number
 // of the key that stands, and how many bytes of the output are the result.
 #[repr(C)]
-#[derive(Drop)]
+#[derive(Clone, Copy)]
 pub struct LuossavinAnswer {
     pub number: u32,
     pub missing: u8,

@@ -8,7 +8,7 @@ use shelf::Kept;
 
 // The number of how it ended, and how many bytes are used after the call: a refusal hands back the count that came.
 #[repr(C)]
-#[derive(Drop)]
+#[derive(Clone, Copy)]
 pub struct LuossavinShelf {
     pub number: u32,
     pub used: usize,
@@ -16,7 +16,7 @@ pub struct LuossavinShelf {
 
 // The number of how it ended, and where the record stands; both are 0 in a refusal.
 #[repr(C)]
-#[derive(Drop)]
+#[derive(Clone, Copy)]
 pub struct LuossavinShelved {
     pub number: u32,
     pub start: usize,

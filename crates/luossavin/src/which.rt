@@ -12,7 +12,7 @@ use editions::Ended;
 
 // It stands for `Found`, which ends with an enum. `found` is 1 or 0, and place, start and length are 0 unless it is 1.
 #[repr(C)]
-#[derive(Drop)]
+#[derive(Clone, Copy)]
 pub struct LuossavinFound {
     pub answer: LuossavinAnswer,
     pub found: u32,

@@ -14,7 +14,7 @@ use ranges::{by_plan, plan, range};
 
 // A plan beside the answer of its making; it has no pieces where that is refused.
 #[repr(C)]
-#[derive(Drop)]
+#[derive(Clone, Copy)]
 pub struct LuossavinPlanned {
     pub answer: LuossavinAnswer,
     pub plan: plan::Plan,

@@ -22,7 +22,7 @@ pub fn pad(rest: &[u8]) -> [u8; 16]
 
 // What opening answers: the length of the message, that the last byte names no padding, or that another byte of the padding
 // that it names differs from it.
-#[derive(Drop)]
+#[derive(Clone, Copy)]
 pub enum Opened {
     Done(usize),
     InvalidLastU8,

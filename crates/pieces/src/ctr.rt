@@ -12,7 +12,7 @@ use cipher_mode::{CipherMode, Direction, Sm4Cipher, answer};
 // The round keys, the flow, the first counter, and how many bytes went through; 0, or what every call answers; the key's number
 // and the mark of its engine. A host in C hands it in and out.
 #[repr(C)]
-#[derive(Drop)]
+#[derive(Clone, Copy)]
 pub struct Ctr {
     pub rk: [u32; 32],
     pub flow: Flow,
@@ -23,7 +23,7 @@ pub struct Ctr {
     pub engine: u8,
 }
 
-#[derive(Drop)]
+#[derive(Clone, Copy)]
 pub struct CtrStep {
     pub answer: Answer,
     pub state: Ctr,

@@ -21,7 +21,7 @@ pub enum Counting {
 // The counter of the block that is begun, and its cipher, at a block's edge too: so no block is ciphered twice, and however a
 // message is cut it has as many ciphers as the single call. The place in the block is the caller's to know.
 #[repr(C)]
-#[derive(Drop)]
+#[derive(Clone, Copy)]
 pub struct Flow {
     pub counter: [u8; 16],
     pub pad: [u8; 16],

@@ -12,7 +12,7 @@ use ghash::Ghash;
 // The key H, the hash of the full blocks so far, and the block that is begun, each as sixteen bytes. How much is begun is the
 // caller's to know.
 #[repr(C)]
-#[derive(Drop)]
+#[derive(Clone, Copy)]
 pub struct Hashing {
     pub h: [u8; 16],
     pub y: [u8; 16],

@@ -14,7 +14,7 @@ use cipher_mode::{CipherMode, Direction, Sm4Cipher, answer};
 // The hash, the cipher of J0, the lengths and the number in J0's last four bytes; 0, or what every call answers; the key's number. The
 // round keys are needed no more.
 #[repr(C)]
-#[derive(Drop)]
+#[derive(Clone, Copy)]
 pub struct Opens {
     pub hashing: Hashing,
     pub mask: [u8; 16],
@@ -25,7 +25,7 @@ pub struct Opens {
     pub key: u16,
 }
 
-#[derive(Drop)]
+#[derive(Clone, Copy)]
 pub struct OpensStep {
     pub answer: Answer,
     pub state: Opens,

@@ -13,7 +13,7 @@ use cipher_mode::{CipherMode, Direction, Sm4Cipher, answer};
 // The round keys, the flow, the hash of what was written, the cipher of J0, the lengths and the number in J0's last four bytes; 0, or
 // what every call answers; the key's number and the mark of its engine.
 #[repr(C)]
-#[derive(Drop)]
+#[derive(Clone, Copy)]
 pub struct Seal {
     pub rk: [u32; 32],
     pub flow: Flow,
@@ -27,7 +27,7 @@ pub struct Seal {
     pub engine: u8,
 }
 
-#[derive(Drop)]
+#[derive(Clone, Copy)]
 pub struct SealStep {
     pub answer: Answer,
     pub state: Seal,

@@ -11,7 +11,7 @@ use crate::hashing::Hashing;
 use crate::{flow, hashing};
 
 // J0 of the IV, the number in its last four bytes, the hash of the label, and the cipher of J0 for the tag.
-#[derive(Drop)]
+#[derive(Clone, Copy)]
 pub(crate) struct Begun {
     pub j0: [u32; 4],
     pub low: u32,

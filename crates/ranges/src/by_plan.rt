@@ -15,7 +15,7 @@ use cipher_mode::{Direction, Sm4Cipher};
 use stream::Kind;
 
 // How work by a plan ended: done with a length, by a plan that is not accepted, or refused as the single call is.
-#[derive(Drop)]
+#[derive(Clone, Copy)]
 pub enum Ended {
     Done(usize),
     NotAccepted,
@@ -23,7 +23,7 @@ pub enum Ended {
 }
 
 // How it ended, and the number of the key that it was made on: 0 where no key stands.
-#[derive(Drop)]
+#[derive(Clone, Copy)]
 pub struct ByPlan {
     pub ended: Ended,
     pub key: u16,

@@ -18,7 +18,7 @@ pub struct Plan {
 }
 
 // How the making of a plan ended. Bad workers are fewer than 1 or more than 64, number 17; too long is number 5.
-#[derive(Drop)]
+#[derive(Clone, Copy)]
 pub enum Making {
     Made,
     BadWorkers,
@@ -26,7 +26,7 @@ pub enum Making {
 }
 
 // How it ended and the plan, which has no pieces and only zeros where none was made.
-#[derive(Drop)]
+#[derive(Clone, Copy)]
 pub struct Planned {
     pub making: Making,
     pub plan: Plan,

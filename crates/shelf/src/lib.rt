@@ -16,7 +16,7 @@ const MOST: usize = 65536;
 
 // How a call ended. A bad shelf is a buffer over 65,536 bytes, records that do not fill the used count exactly, an unknown mark,
 // or two current records of one job.
-#[derive(Drop)]
+#[derive(Clone, Copy)]
 pub enum Ended {
     Done,
     BadShelf,
@@ -26,14 +26,14 @@ pub enum Ended {
 }
 
 // How putting or collecting ended, and how many bytes are used now: a refusal hands back the count that came.
-#[derive(Drop)]
+#[derive(Clone, Copy)]
 pub struct Kept {
     pub ended: Ended,
     pub used: usize,
 }
 
 // How looking up ended, and the job's current record as a part of the buffer; a refusal has 0 in both.
-#[derive(Drop)]
+#[derive(Clone, Copy)]
 pub struct Found {
     pub ended: Ended,
     pub start: usize,

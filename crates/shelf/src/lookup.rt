@@ -9,7 +9,7 @@ use crate::records::Head;
 
 // What the records say of a job and an edition, in bytes: those before the job's current record, those of that record, those of its
 // records with at least this edition, and those of the current records of all other jobs.
-#[derive(Drop)]
+#[derive(Clone, Copy)]
 pub(crate) struct Told {
     pub start: usize,
     pub length: usize,

@@ -11,7 +11,7 @@ use crate::{Kind, step};
 use sliced::LEAST;
 
 // How far a walk has come: the state, and how many bytes are done.
-#[derive(Drop)]
+#[derive(Clone, Copy)]
 pub(crate) struct Place {
     pub state: [u32; 4],
     pub at: usize,

@@ -98,7 +98,7 @@ fn xor_rest(
 
 // Where a walk ends: the state after the full blocks, and, where the message goes on, the cipher of it, with which a rest was xored. A
 // message that goes on takes both from here, so that no block is ciphered twice.
-#[derive(Drop)]
+#[derive(Clone, Copy)]
 pub struct End {
     pub state: [u32; 4],
     pub pad: [u8; 16],
