@@ -4,9 +4,11 @@
 use Rattle.block.proofs.Base.{rules}
 use Rattle.counter.specs.Counter.{ctr_next, ctr_jump}
 use Rattle.counter.proofs.Steps.{ctr-jump-words, ctr-words_pass}
-use Rattle.counter.proofs.block_add_one.Statement.{statement}
-use Rattle.counter.proofs.block_add_one.Tie as tie
+use Rattle.counter.proofs.block_add_one.Goals as goal
 
-pub block_add_one_spec : {M : Type 1} → statement M
-block_add_one_spec = tie.close (tie.spec (λ c. search rules) (λ c. search rules) (λ c. search rules)
-    (λ c. unfold ctr_next ctr_jump in search (rules, ctr-jump-words, ctr-words_pass)))
+pub returns-clause-counter_value : goal.returns-clause-counter_value
+unfolding ctr_next ctr_jump
+returns-clause-counter_value c = search (rules, ctr-jump-words)
+
+pub returns-clause-came_round_value : goal.returns-clause-came_round_value
+returns-clause-came_round_value c = search (rules, ctr-words_pass)

@@ -2,8 +2,7 @@
 -- block that spells that, which is Ctr's counter so many blocks on (`ctr-jump-words`).
 use Rattle.block.proofs.Base.{rules}
 use Rattle.counter.proofs.Steps.{ctr-jump-words}
-use Rattle.counter.proofs.jump.Statement.{statement}
-use Rattle.counter.proofs.jump.Tie as tie
+use Rattle.counter.proofs.jump.Goals as goal
 
-pub jump_spec : {M : Type 1} → statement M
-jump_spec = tie.close (tie.spec (λ c. search rules) (λ c. search rules) (λ c. search rules) (λ c. search (rules, ctr-jump-words)))
+pub returns : goal.returns
+returns c = search (rules, ctr-jump-words)
