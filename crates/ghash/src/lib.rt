@@ -84,7 +84,8 @@ impl Ghash {
         let h = carryless::parts(self.h);
         let mut state = self;
         for i in 0..block_count(bytes.len()) {
-            state = state.absorb(&h, &bytes[16 * i..]);
+            let at = 16 * i;
+            state = state.absorb(&h, &bytes[at..]);
         }
         state
     }

@@ -62,6 +62,7 @@ impl From<Result<Report, Stopped>> for LuossavinReplayed {
             Err(stopped) => (stopped.place, stopped.report),
         };
         let first = report.first.unwrap_or(Difference { index: 0, place: 0 });
+        // by variables, as in `key`: a field that is an array goes into a literal only from one
         let by_mode = report.by_mode;
         let by_answer = report.by_answer;
         LuossavinReplayed {

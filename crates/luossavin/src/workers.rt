@@ -22,6 +22,7 @@ pub struct LuossavinPlanned {
     pub plan: Plan,
 }
 
+// Number and reason are types of other crates, so this is no `From`.
 fn number_of(why: NotMade) -> u32
     ensures { result ≡ not_made_number why }
 {
