@@ -147,7 +147,7 @@ fn decrypt_batches(
     at
 }
 
-// The first m blocks of `data`, decrypted side by side to the front of `out`.
+// The first m blocks of `data`, decrypted side by side to the front of `out`. (`few` of `stream` has the two slices changed about.)
 fn decrypt_few(back: [u32; 32], iv: [u32; 4], m: usize, data: &[u8], out: &mut [u8])
     requires { (m ≤ 64) × (16 * m ≤ length «data».now) × (16 * m ≤ length out.old) }
     ensures { out.new ≡ over (cat m (λ i. (cbc_decrypt (reverse back)).block (stepped (cbc_decrypt (reverse back)) i (unwords iv) «data».now) (block_at «data».now i))) out.old }
