@@ -103,6 +103,8 @@ function writes(i, r,    w, k, at, size) {
         return operand[i, 1] == r
     }
     if (w ~ /^(cmp|test|push|nop|data16|cs|ret|vp?test|bt$)/) return 0
+    # two bytes that do nothing, as filling
+    if (w == "xchg" && raw[i, 1] == "%ax" && raw[i, 2] == "%ax") return 0
     if (w ~ /^(mul|div|idiv|cqto|cltd|rep|cpuid|stos|movs$)/ || (w ~ /^imul/ && count[i] == 1)) return r ~ /^(rax|rdx|rcx|rsi|rdi)$/ ? 2 : 0
     if (w ~ /^(xchg|xadd|mulx)/) for (k = 1; k < count[i]; k++) if (operand[i, k] == r) return 2
     return operand[i, count[i]] == r
@@ -209,12 +211,14 @@ function is_public(i, r,    what, ok) {
 # result goes by a pointer, which is an argument too.
 function list_arguments() {
     listed["sixteen::encrypt argument 2"]               # m: how many blocks
-    listed["stream::few::few argument 5"]               # m: how many blocks
-    listed["carryless::many::products64 argument 4"]    # n: how many hashes, the factor being left out, of which the parts are lent
+    listed["cipher::encrypt argument 2"]                # engine: what the rounds go by
+    listed["stream::few::few argument 4"]               # wide, in the kind: whether all of the counter counts, or its last word
+    listed["stream::few::few argument 6"]               # m: how many blocks
     listed["field::power argument 3"]                   # n: to which power, a count of blocks
     listed["sliced::counters::add_word argument 3"]     # n: how many rows hold anything, 0 or 9, a constant of the callers
     listed["sliced::encrypt_xored argument 2"]          # m: how many blocks
     listed["stream::batches::counters argument 3"]      # wide: whether all of the counter counts, Ctr, or its last word, Gcm
+    listed["stream::batches::counters argument 6"]      # how many bytes of text there are
 }
 
 # Whether the last instruction before i that changes what is asked is one that loops and questions of addresses go by. Each rule is
@@ -231,6 +235,8 @@ function is_allowed(i, by,    w, r) {
     }
     if (w ~ /^(add|sub|inc|dec)/ && text_of[by] !~ /\(/) return rule("counter")
     if (w ~ /^shr/ && count[by] == 1 && is_public(by, operand[by, 1])) return rule("counter")
+    # so many bits shifted out: whether any of the upper ones is there
+    if (w ~ /^shr/ && raw[by, 1] ~ /^\$/ && is_public(by, operand[by, 2])) return rule("bits of counts and flags")
     if (w ~ /^cmp/ && (text_of[by] !~ /\(/ || text_of[by] ~ /\(%rsp\)/)) return rule("comparison")
     if (w ~ /^test/ && raw[by, 1] == raw[by, 2] && raw[by, 1] ~ /^%/) return rule("zero")
     if (w ~ /^(test|or|and|xor)$/ && text_of[by] ~ /,%([abcd]l|[sd]il|[sb]pl|r[0-9]+b)$/ && text_of[by] !~ /\$/) return rule("answers")
@@ -247,7 +253,7 @@ function changes_flags(i,    w) {
 
 # The gates, what the modes do with many blocks at once, the products and the hash over them.
 function is_looked_at() {
-    return name ~ /^(circuit|sixteen|sliced|rows|carryless|field|ghash)::/ || name ~ /^(cipher::gates|stream::batches|stream::few)::/ || name == "cipher::encrypt"
+    return name ~ /^(circuit|lanes|sixteen|sliced|rows|carryless|field|ghash)::/ || name ~ /^(cipher::gates|cipher::round_map|stream::batches|stream::few)::/ || name == "cipher::encrypt"
 }
 
 # A product is known by the mask of every fourth bit of 64.

@@ -1,12 +1,12 @@
 -- The three products of `karatsuba`, put together in words.
-use Rattle.block.proofs.Base.{◌%◌, ◌*◌, ◌+◌, ◌/◌, ◌<◌, ◌^◌, ℕ, ◌∙◌, ◌≡◌, ap₂, sym, add-mul, add-zero, div-one, le_refl, lt_trans, mod-lt}
-use Rattle.block.proofs.Base.{mul_assoc, zero-add, digits_lt, xor_block, xor_lt, xor_shifted, xor_zero_r, lit<, high, low, pow-add, pow_pos}
-use Rattle.block.proofs.Base.{shl_lt, shl-shr, shr_lt, shr-shr, split}
+use Rattle.block.proofs.Base.{◌%◌, ◌*◌, ◌+◌, ◌/◌, ◌<◌, ◌^◌, ℕ, ◌∙◌, ◌≡◌, ap₂, sym, add-mul, add-zero, lt_trans, mod-lt}
+use Rattle.block.proofs.Base.{mul_assoc, zero-add, digits_lt, xor_block, xor_shifted, xor_zero_r, lit<, high, low, pow-add, pow_pos}
+use Rattle.block.proofs.Base.{shl_lt, shl-shr, shr-shr, split}
 use Rattle.block.specs.Wide.{whole}
 use Rattle.block.specs.Xor.{◌⊕◌}
-use Rattle.block.proofs.Xor.{xor-sums}
+use Rattle.block.proofs.Xor.{xor-sums, xor_wide}
 use Rattle.carryless.specs.Carryless.{clmul, joining, joining128}
-use Rattle.carryless.proofs.Laws.{xor-clmul, clmul-mod, clmul-lt, karatsuba, square_halves}
+use Rattle.carryless.proofs.Laws.{clmul-lt, karatsuba, square_halves}
 
 -- a shift to the left in two words
 pub spill : (j k z : ℕ) → z / 2 ^ j * 2 ^ (k + j) + z * 2 ^ k % 2 ^ (k + j) ≡ z * 2 ^ k
@@ -19,13 +19,7 @@ join k h m l hl =
     rw (← xor_block (k + k) h (m / 2 ^ k) l (m * 2 ^ k % 2 ^ (k + k)) hl (mod-lt (m * 2 ^ k) (pow_pos (k + k))), spill k k m)
     (rw (← xor_shifted h (k + k) l hl, pow-add 2 k k, mul_assoc h (2 ^ k) (2 ^ k)) (simp xor-sums))
 
-pub xor-whole : (a b c d : ℕ) → b < 2 ^ 64 → d < 2 ^ 64 → whole (a ⊕ c) (b ⊕ d) ≡ whole a b ⊕ whole c d
-xor-whole a b c d hb hd = sym (xor_block 64 a c b d hb hd)
-
 -- numbers of 64 bits
-pub high_lt : (x y : ℕ) → x < 2 ^ 64 → y < 2 ^ 64 → (x ⊕ y) / 2 ^ 32 < 2 ^ 32
-high_lt x y hx hy = shr_lt 32 32 (xor_lt 64 x y hx hy)
-
 module _ (x y h l b : ℕ)
     (eh : h ≡ clmul 32 (x / 2 ^ 32) (y / 2 ^ 32)) (el : l ≡ clmul 32 (x % 2 ^ 32) (y % 2 ^ 32))
     (eb : b ≡ clmul 32 (x % 2 ^ 32 ⊕ x / 2 ^ 32) (y % 2 ^ 32 ⊕ y / 2 ^ 32)) where
@@ -39,25 +33,15 @@ module _ (x y h l b : ℕ)
       ∙ sym (karatsuba 32 (x / 2 ^ 32) (x % 2 ^ 32) (y / 2 ^ 32) (y % 2 ^ 32) (mod-lt x (pow_pos 32)) (mod-lt y (pow_pos 32)))
       ∙ ap₂ (clmul 64) (split x 32) (split y 32)
 
--- where the halves are taken as 32 bits from a place on
-pub join-halves : (x y a b s h l m : ℕ) → a ≡ x / 2 ^ 32 % 2 ^ 32 → b ≡ x / 2 ^ 0 % 2 ^ 32 → s ≡ b ⊕ a
-    → h ≡ clmul 32 a (y / 2 ^ 32) → l ≡ clmul 32 b (y % 2 ^ 32) → m ≡ clmul 32 s (y % 2 ^ 32 ⊕ y / 2 ^ 32) → joining h l m ≡ clmul 64 x y
-join-halves x y a b s h l m ea eb es eh el em =
-    let t = y % 2 ^ 32 ⊕ y / 2 ^ 32 in
-    let low-is : b ≡ x % 2 ^ 32 = eb ∙ rw (div-one x) in
-    let high_is : (z : ℕ) → clmul 32 a z ≡ clmul 32 (x / 2 ^ 32) z = λ z. rw ea (clmul-mod 32 32 (x / 2 ^ 32) z (le_refl 32)) in
-    join_64 x y h l m (eh ∙ high_is (y / 2 ^ 32)) (el ∙ rw low-is)
-    (em ∙ rw (es, low-is, xor-clmul 32 (x % 2 ^ 32) a t, high_is t, xor-clmul 32 (x % 2 ^ 32) (x / 2 ^ 32) t))
-
 -- numbers of 128 bits
 module _ (h1 h0 m1 m0 l1 l0 : ℕ) (p : h0 < 2 ^ 64) (q : m1 < 2 ^ 64) (r : m0 < 2 ^ 64) (s : l1 < 2 ^ 64) (t : l0 < 2 ^ 64) where
   upper : whole h1 (h0 ⊕ m1) ≡ whole h1 h0 ⊕ whole m1 m0 / 2 ^ 64
-  upper = rw (high m1 64 r) (simp (xor_zero_r, zero-add) at (xor-whole h1 h0 0 m1 p q))
+  upper = rw (high m1 64 r) (simp (xor_zero_r, zero-add) at (xor_wide h1 h0 0 m1 p q))
 
   lower : whole (l1 ⊕ m0) l0 ≡ whole l1 l0 ⊕ whole m1 m0 * 2 ^ 64 % 2 ^ 128
   lower =
       rw (add-mul (m1 * 2 ^ 64) m0 (2 ^ 64), mul_assoc m1 (2 ^ 64) (2 ^ 64), low m1 128 (shl_lt 64 64 r))
-      (simp (xor_zero_r, add-zero) at (xor-whole l1 l0 m0 0 t (lit< tt)))
+      (simp (xor_zero_r, add-zero) at (xor_wide l1 l0 m0 0 t (lit< tt)))
 
   pub join-sums : (b g : ℕ) → g ≡ b ⊕ whole l1 l0 → whole m1 m0 ≡ g ⊕ whole h1 h0
       → whole h1 (h0 ⊕ m1) * 2 ^ 128 + whole (l1 ⊕ m0) l0 ≡ joining128 (whole h1 h0) (whole l1 l0) b

@@ -1,17 +1,15 @@
 -- Numbers of 32 bits as four parts of every fourth bit each: the sixteen products of the parts, summed up by their places, are the product
 -- without carry (`by_quarters`); of a square four of them are enough (`squares`).
-use Rattle.block.proofs.Base.{◌%◌, ◌*◌, ◌+◌, ◌-◌, ◌/◌, ◌<◌, ◌^◌, ◌≤◌, min, suc, zero, ℕ, ◌∙◌, ◌≡◌, ap, ap₂, refl, sym, ⊎_elim, List}
-use Rattle.block.proofs.Base.{add-zero, lt_of_le_of_lt, lt_trans, mod-eq_of_lt, mod-lt, mul_assoc, mul-le-mul, mul-mul-mul_comm, pow-suc}
-use Rattle.block.proofs.Base.{arith, and_block, and_comm, and_le_l, and_mask, and_zero_r, bit_and, differ, xor_lt, T, ltb, lit<, get_or}
-use Rattle.block.proofs.Base.{length, pow-add, pow_pos, shl-shr, split}
-use Rattle.block.specs.declared.U128.{U128}
+use Rattle.block.proofs.Base.{◌%◌, ◌*◌, ◌+◌, ◌/◌, ◌<◌, ◌^◌, ◌≤◌, min, suc, zero, ℕ, ◌∙◌, ◌≡◌, ap, ap₂, refl, sym, ⊎_elim, [], ◌∷◌}
+use Rattle.block.proofs.Base.{add-zero, lt_of_le_of_lt, mod-eq_of_lt, mod-lt, mul_assoc, mul-mul-mul_comm, pow-suc}
+use Rattle.block.proofs.Base.{arith, and_block, and_comm, and_le_l, and_mask, and_zero_r, bit_and, differ, xor_lt, T, ltb, lit<}
+use Rattle.block.proofs.Base.{pow-add, pow_pos, shl-shr, split}
 use Rattle.block.specs.Xor.{◌⊕◌}
 use Rattle.block.proofs.Xor.{xor-sums}
 use Rattle.lanes.proofs.Bits.{bit-and, bit_ext, bit-small, bit-xor, three-bits, lt-or-le}
 use Rattle.lanes.specs.Bits.{bit}
-use Rattle.lanes.proofs.Filling.{one_more, each8}
 use Rattle.carryless.specs.Carryless.{clmul}
-use Rattle.carryless.specs.Lent.{parts128, words128, PartsOf, Quarters, Lends, Lends64}
+use Rattle.carryless.specs.Lent.{quarters}
 use Rattle.carryless.proofs.Laws.{clmul-xor, xor-clmul, clmul-up, up-clmul, square_xor}
 use Rattle.carryless.proofs.Holes.{ones, Few, few_pick, pick_more, pick_up, hole_product}
 
@@ -65,22 +63,6 @@ module _ (X Y i j : ℕ) (hX : Few 3 1 8 X) (hY : Few 3 1 8 Y) (h : X * 2 ^ i < 
       rw (product, carryless, s (X * Y), s (clmul 32 X Y), and-shl k (X * Y * 2 ^ 4 * 2 ^ k) (ones 3 16), shl-shr (X * Y * 2 ^ 4) k)
       (ap (λ (v : ℕ). v * 2 ^ k) (pick_up 3 15 (X * Y) ∙ ap (λ (v : ℕ). v * 2 ^ 4) p.bits))
 
-mul-lt : (a b : ℕ) → a < 2 ^ 32 → b < 2 ^ 32 → a * b < 2 ^ 64
-mul-lt a b ha hb =
-    let p : a ≤ 2 ^ 32 - 1 = omega arith in
-    let q : b ≤ 2 ^ 32 - 1 = omega arith in
-    lt_of_le_of_lt (mul-le-mul p q) (lit< tt)
-
--- no product of a part wraps
-pub part-times : (x m y : ℕ) → x < 2 ^ 32 → y < 2 ^ 32 → bit_and x m * y < 2 ^ 64
-part-times x m y hx hy = mul-lt (bit_and x m) y (lt_of_le_of_lt (and_le_l x m) hx) hy
-
-pub part-fits : (x m : ℕ) → x < 2 ^ 32 → bit_and x m < 2 ^ 64
-part-fits x m h = lt_trans (lt_of_le_of_lt (and_le_l x m) h) (lit< tt)
-
-pub parts_fit : (x m y n : ℕ) → x < 2 ^ 32 → y < 2 ^ 32 → bit_and x m * bit_and y n < 2 ^ 64
-parts_fit x m y n hx hy = part-times x m (bit_and y n) hx (lt_of_le_of_lt (and_le_l y n) hy)
-
 -- the parts make up the number
 whole_of : (x : ℕ) → x < 2 ^ 32 → part x 0 ⊕ part x 1 ⊕ part x 2 ⊕ part x 3 ≡ x
 whole_of x h =
@@ -102,40 +84,21 @@ module _ (x y : ℕ) (hx : x < 2 ^ 32) (hy : y < 2 ^ 32) where
       (λ (g : 4 ≤ i + j). past _ _ i j (f (x / 2 ^ i)) (f (y / 2 ^ j)) (part-lt i) ((i + j) % 4) (omega arith)) (lt-or-le (i + j) 4))
 
   -- products whose bits have the same places, summed up
-  pub by_quarters : (p q r s : ℕ) → Quarters y p q r s → (z0 z1 z2 z3 : ℕ)
+  pub by_quarters : (p q r s : ℕ) → p ∷ q ∷ r ∷ s ∷ [] ≡ quarters y → (z0 z1 z2 z3 : ℕ)
       → z0 ≡ part x 0 * p ⊕ part x 1 * s ⊕ part x 2 * r ⊕ part x 3 * q
       → z1 ≡ part x 0 * q ⊕ part x 1 * p ⊕ part x 2 * s ⊕ part x 3 * r
       → z2 ≡ part x 0 * r ⊕ part x 1 * q ⊕ part x 2 * p ⊕ part x 3 * s
       → z3 ≡ part x 0 * s ⊕ part x 1 * r ⊕ part x 2 * q ⊕ part x 3 * p
       → bit_and z0 (all 0) ⊕ bit_and z1 (all 1) ⊕ bit_and z2 (all 2) ⊕ bit_and z3 (all 3) ≡ clmul 32 x y
   by_quarters p q r s l z0 z1 z2 z3 e0 e1 e2 e3 =
-      rw (e0, e1, e2, e3, l.first, l.second, l.third, l.fourth)
+      let first : p ≡ part y 0 = cc in
+      let second : q ≡ part y 1 = cc in
+      let third : r ≡ part y 2 = cc in
+      let fourth : s ≡ part y 3 = cc in
+      rw (e0, e1, e2, e3, first, second, third, fourth)
       (simp (xor-and, meet 0 0 tt, meet 1 3 tt, meet 2 2 tt, meet 3 1 tt, meet 0 1 tt, meet 1 0 tt, meet 2 3 tt, meet 3 2 tt)
       (simp (meet 0 2 tt, meet 1 1 tt, meet 2 0 tt, meet 3 3 tt, meet 0 3 tt, meet 1 2 tt, meet 2 1 tt, meet 3 0 tt, xor-sums)
       (simp (xor-clmul, clmul-xor, xor-sums) at (ap₂ (clmul 32) (whole_of x hx) (whole_of y hy)))))
-
--- parts that are lent: nine times four are the parts of a number of 128 bits
-module _ (y : U128) (m : List ℕ) (p : PartsOf y m) where
-  four : (v : ℕ) → Quarters v (bit_and v (some 0)) (bit_and v (some 1)) (bit_and v (some 2)) (bit_and v (some 3))
-  four v = record { first = refl; second = refl; third = refl; fourth = refl }
-
-  -- word by word
-  pub lends_word : (k : ℕ) → k < 9 → Lends (get_or (words128 y) k 0) m (4 * k)
-  lends_word k h =
-      let q = parts128 y in
-      let P : ℕ → Type 0 = λ k.
-      Quarters (get_or (words128 y) k 0) (get_or q (4 * k) 0) (get_or q (4 * k + 1) 0) (get_or q (4 * k + 2) 0) (get_or q (4 * k + 3) 0) in
-      let e = one_more P 8 (four _) (each8 P (four _) (four _) (four _) (four _) (four _) (four _) (four _) (four _)) k h in
-      record { size = ap length p.words; place = omega arith; words = rw p.words e }
-
-  pub lends_high : Lends64 y.high m 0
-  lends_high = record { high = lends_word 0 (lit< tt); low = lends_word 1 (lit< tt); both = lends_word 2 (lit< tt) }
-
-  pub lends_low : Lends64 y.low m 12
-  lends_low = record { high = lends_word 3 (lit< tt); low = lends_word 4 (lit< tt); both = lends_word 5 (lit< tt) }
-
-  pub lends_both : Lends64 (y.low ⊕ y.high) m 24
-  lends_both = record { high = lends_word 6 (lit< tt); low = lends_word 7 (lit< tt); both = lends_word 8 (lit< tt) }
 
 -- the square of a sum of parts is the sum of their squares
 pub squares : (x : ℕ) → x < 2 ^ 32

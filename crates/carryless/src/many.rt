@@ -1,100 +1,95 @@
-// Products without carry of up to sixteen numbers by one. Every step is one loop over the n numbers, of which the back end makes vectors. n is a
-// parameter all the way down, since a loop whose count the back end knows is not vectorized here.
-ghost use Rattle.std.specs.Prelude.{◌≡◌, ◌/◌, ◌%◌, ◌^◌, ◌≤◌, length, get_or};
+// Products without carry of up to sixteen numbers by one. Every step is one loop over the n numbers, of which the back end makes vectors.
+// n is a parameter all the way down, since a loop whose count the back end knows is not vectorized here. That it is at most 16 is asked, and
+// no type of its own: each loop would take the type apart, and `products64`, which docs/PROMISES.md names, asks it of a number.
+ghost use Rattle.std.specs.Prelude.{◌≡◌, ◌≢◌, ℕ, ◌/◌, ◌%◌, ◌^◌, ◌<◌, ◌≤◌, get_or};
+ghost use Rattle.block.specs.Wide.{value};
 ghost use Rattle.block.specs.Xor.{◌⊕◌};
 ghost use Rattle.carryless.specs.Carryless.{clmul, joining};
-ghost use Rattle.carryless.specs.Lanes.{Each, Both};
-ghost use Rattle.carryless.specs.Lent.{Lends, Lends64};
+ghost use Rattle.carryless.specs.Lanes.{Each, lane, Both};
+ghost use Rattle.carryless.specs.Lent.{quarters, Parts64};
 
-use crate::{clmul32, joined};
+use crate::{clmul32, joined, words_of_half};
+use block::U128;
 
-// Of each of n words the 32 bits from bit k on.
-fn halves(x: &[u64; 16], k: u32, n: usize) -> [u32; 16]
-    requires { (n ≤ 16) × (k ≤ 32) × (length x.now ≡ 16) }
-    ensures { Each (λ g. get_or x.now g 0 / 2 ^ k % 2 ^ 32) n result }
-{
-    let mut r = [0u32; 16];
-    let mut g: usize = 0;
-    while g < n {
-        r[g] = ((x[g] >> k) % 0x1_0000_0000) as u32;
-        g += 1;
-    }
-    r
+// Sixteen numbers of 128 bits. Their halves stand in two arrays, as vectors want them: an array of `U128` would be taken apart into words
+// of 64 bits side by side for each of a product's three parts.
+#[derive(Clone, Copy)]
+pub struct Numbers {
+    pub high: [u64; 16],
+    pub low: [u64; 16],
 }
 
-// The sums of n words.
-fn sums(a: &[u32; 16], b: &[u32; 16], n: usize) -> [u32; 16]
-    requires { (n ≤ 16) × (length a.now ≡ 16) × (length b.now ≡ 16) }
-    ensures { Each (λ g. get_or a.now g 0 ⊕ get_or b.now g 0) n result }
-{
-    let mut r = [0u32; 16];
-    let mut g: usize = 0;
-    while g < n {
-        r[g] = a[g] ^ b[g];
-        g += 1;
+impl Numbers {
+    pub const ZEROS: Numbers = Numbers {
+        high: [0; 16],
+        low: [0; 16],
+    };
+
+    // Number g.
+    pub fn get(&self, g: usize) -> U128
+        requires { g < 16 }
+        ensures { value result ≡ lane self.now g }
+    {
+        U128 {
+            high: self.high[g],
+            low: self.low[g],
+        }
     }
-    r
+
+    // Makes z number g.
+    pub fn set(&mut self, g: usize, z: U128)
+        requires { g < 16 }
+        ensures placed { lane self.new g ≡ value z }
+        ensures others { (k : ℕ) → k ≢ g → lane self.new k ≡ lane self.old k }
+    {
+        self.high[g] = z.high;
+        self.low[g] = z.low;
+    }
 }
 
-// The products of n words by y, whose parts stand in m from `at` on.
-fn products(x: &[u32; 16], y: u32, m: &[u32; 36], at: usize, n: usize) -> [u64; 16]
-    requires { (n ≤ 16) × (length x.now ≡ 16) × Lends y m.now at }
+// Of each of n words the high half, the low half, and their sum.
+fn halves(x: &[u64; 16], n: usize) -> ([u32; 16], [u32; 16], [u32; 16])
+    requires { n ≤ 16 }
+    ensures high { Each (λ g. get_or x.now g 0 / 2 ^ 32) n result.0 }
+    ensures low { Each (λ g. get_or x.now g 0 % 2 ^ 32) n result.1 }
+    ensures both { Each (λ g. get_or x.now g 0 % 2 ^ 32 ⊕ get_or x.now g 0 / 2 ^ 32) n result.2 }
+{
+    let mut high = [0u32; 16];
+    let mut low = [0u32; 16];
+    let mut both = [0u32; 16];
+    for g in 0..n {
+        let [a, b, c] = words_of_half(x[g]);
+        high[g] = a;
+        low[g] = b;
+        both[g] = c;
+    }
+    (high, low, both)
+}
+
+// The products of n words by y, whose parts are these.
+fn products(x: &[u32; 16], y: u32, parts: [u32; 4], n: usize) -> [u64; 16]
+    requires { (n ≤ 16) × (parts ≡ quarters y) }
     ensures { Each (λ g. clmul 32 (get_or x.now g 0) y) n result }
 {
-    let p = m[at];
-    let q = m[at + 1];
-    let r = m[at + 2];
-    let s = m[at + 3];
     let mut z = [0u64; 16];
-    let mut g: usize = 0;
-    while g < n {
-        z[g] = clmul32(x[g], y, p, q, r, s);
-        g += 1;
+    for g in 0..n {
+        z[g] = clmul32(x[g], y, parts);
     }
     z
 }
 
-// n times three products of halves of 32 bits, put together.
-fn join_each(
-    p: &[u64; 16],
-    q: &[u64; 16],
-    r: &[u64; 16],
-    n: usize,
-    high: &mut [u64; 16],
-    low: &mut [u64; 16],
-)
-    requires { (n ≤ 16) × (length p.now ≡ 16) × (length q.now ≡ 16) × (length r.now ≡ 16) × (length high.old ≡ 16) × (length low.old ≡ 16) }
-    ensures { Both (λ g. joining (get_or p.now g 0) (get_or q.now g 0) (get_or r.now g 0)) n high.new low.new × (length high.new ≡ 16) × (length low.new ≡ 16) }
+// The products of n numbers of 64 bits by y, whose parts are lent as m. z is lent too: handed back it would be copied, for 4 in a hundred
+// more instructions of a long hash.
+pub fn products64(x: &[u64; 16], y: u64, m: &[[u32; 4]], n: usize, z: &mut Numbers)
+    requires { (n ≤ 16) × Parts64 y m.now }
+    ensures { Both (λ g. clmul 64 (get_or x.now g 0) y) n z.new }
 {
-    let mut g: usize = 0;
-    while g < n {
-        let z = joined(p[g], q[g], r[g]);
-        high[g] = z.high;
-        low[g] = z.low;
-        g += 1;
+    let (high, low, both) = halves(x, n);
+    let [a, b, c] = words_of_half(y);
+    let p = products(&high, a, m[0], n);
+    let q = products(&low, b, m[1], n);
+    let r = products(&both, c, m[2], n);
+    for g in 0..n {
+        z.set(g, joined(p[g], q[g], r[g]));
     }
-}
-
-// The products of n numbers of 64 bits by y, whose parts stand in m from `at` on, in two words each.
-pub fn products64(
-    x: &[u64; 16],
-    y: u64,
-    m: &[u32; 36],
-    at: usize,
-    n: usize,
-    high: &mut [u64; 16],
-    low: &mut [u64; 16],
-)
-    requires { (n ≤ 16) × (length x.now ≡ 16) × Lends64 y m.now at × (length high.old ≡ 16) × (length low.old ≡ 16) }
-    ensures { Both (λ g. clmul 64 (get_or x.now g 0) y) n high.new low.new × (length high.new ≡ 16) × (length low.new ≡ 16) }
-{
-    let c = (y >> 32) as u32;
-    let d = (y % 0x1_0000_0000) as u32;
-    let a = halves(x, 32, n);
-    let b = halves(x, 0, n);
-    let s = sums(&b, &a, n);
-    let p = products(&a, c, m, at, n);
-    let q = products(&b, d, m, at + 4, n);
-    let r = products(&s, d ^ c, m, at + 8, n);
-    join_each(&p, &q, &r, n, high, low);
 }

@@ -1,9 +1,10 @@
 -- Decryption of many blocks at once: the state of a block is the ciphertext block before it, and the cipher under the round keys turned
 -- round is decryption.
-use Rattle.cbc.proofs.Names.{FedBack, List, ◌*◌, ◌++◌, ◌+◌, ◌-◌, ◌<◌, ◌∙◌, ◌≡◌, ◌≤◌, ap, arith, block-before, block_of, block_at, cat}
-use Rattle.cbc.proofs.Names.{cat-same, cbc_decrypt, decrypt-turned, decrypt_block, drop, drop-drop, encrypt_block, length}
-use Rattle.cbc.proofs.Names.{length-append, length-block_at, length-cat, length-encrypt_block, over, refl, reverse, states_before}
-use Rattle.cbc.proofs.Names.{stepped, sym, take, unwords, words, xored-blocks, xors, xors_comm, ℕ}
+use Rattle.cbc.proofs.Names.{FedBack, List, Reached, ◌*◌, ◌++◌, ◌+◌, ◌-◌, ◌<◌, ◌∙◌, ◌≡◌, ◌≤◌, ap, arith, block-before, block_of, block_at}
+use Rattle.cbc.proofs.Names.{cat, cat-same, cbc_decrypt, decrypt-turned, decrypt_block, drop, drop-drop, encrypt_block, gives, length}
+use Rattle.cbc.proofs.Names.{length-append, length-block_at, length-cat, length-drop, length-encrypt_block, over, reached_on, refl}
+use Rattle.cbc.proofs.Names.{returned, reverse, states_before, stepped, suc, sym, tail_is, tailed, take, unwords, words, xored-blocks, xors}
+use Rattle.cbc.proofs.Names.{xors_comm, zero, ℕ}
 use Rattle.cbc.proofs.Blocks.{decrypt-block}
 
 turned-block : (back s : List ℕ) → encrypt_block back s ≡ decrypt_block (reverse back) s
@@ -44,17 +45,31 @@ module _ (back : List ℕ) where
       (λ i g. ap (λ (x : List ℕ). xors x (f i)) (states i g)) in
       decrypted m (λ i. stepped M i s d) (λ i. block_at d i) o t (et ∙ ap (λ (x : List ℕ). over x o) xored)
 
-  -- the state n blocks further on is the block before that place
-  pub fed_next : (s r d : List ℕ) (at n : ℕ) → length s ≡ 16 → length r ≡ 16 → 1 ≤ n
-      → take 16 (drop (at + 16 * n) (s ++ d)) ≡ stepped (cbc_decrypt (reverse back)) n r (drop at d)
-  fed_next s r d at n hs hr h =
-      let k : at + (16 * n - 16) ≡ at + 16 * n - 16 = omega arith in
-      block-before s d (at + 16 * n) hs (omega arith) ∙ sym (states_before (cbc_decrypt (reverse back)) decrypt_fed n r (drop at d) hr
-      ∙ block-before r (drop at d) (16 * n) hr (omega arith) ∙ ap (take 16) (drop-drop (16 * n - 16) at d ∙ ap (λ (x : ℕ). drop x d) k))
-
   -- a state on the way is a block
-  pub full_state : (s d : List ℕ) (n i : ℕ) → length s ≡ 16 → 16 * n ≤ length d → i < n
+  full_state : (s d : List ℕ) (n i : ℕ) → length s ≡ 16 → 16 * n ≤ length d → i < n
       → length (stepped (cbc_decrypt (reverse back)) i s d) ≡ 16
   full_state s d n i hs hd h =
       ap length (states_before (cbc_decrypt (reverse back)) decrypt_fed i s d hs)
       ∙ length-block_at (s ++ d) i n h (rw length-append (omega arith))
+
+  -- the state n blocks further on is the block before that place
+  fed_next : (n : ℕ) (s r d : List ℕ) (at : ℕ) → length s ≡ 16 → length r ≡ 16 → r ≡ take 16 (drop at (s ++ d))
+      → take 16 (drop (at + 16 * n) (s ++ d)) ≡ stepped (cbc_decrypt (reverse back)) n r (drop at d)
+  unfolding stepped
+  fed_next zero s r d at hs hr e = let z : at + 16 * 0 ≡ at = omega arith in rw z (sym e)
+  fed_next (suc n) s r d at hs hr e =
+      let b = 16 * suc n - 16 in
+      let k : at + b ≡ at + 16 * suc n - 16 = omega arith in
+      block-before s d (at + 16 * suc n) hs (omega arith)
+      ∙ sym (states_before (cbc_decrypt (reverse back)) decrypt_fed (suc n) r (drop at d) hr
+      ∙ block-before r (drop at d) (16 * suc n) hr (omega arith) ∙ ap (take 16) (drop-drop b at d ∙ ap (λ (x : ℕ). drop x d) k))
+
+  -- n blocks more were written, side by side, where the walk had come to
+  pub few_on : (n : ℕ) (s r d o p t : List ℕ) (at : ℕ) → length s ≡ 16 → length r ≡ 16 → r ≡ take 16 (drop at (s ++ d))
+      → Reached (cbc_decrypt (reverse back)) s d o (take 16 (drop at (s ++ d))) p at → at + 16 * n ≤ length d → at + 16 * n ≤ length p
+      → t ≡ over (cat n (gives (cbc_decrypt (reverse back)) r (tailed at d))) (tailed at p)
+      → Reached (cbc_decrypt (reverse back)) s d o (take 16 (drop (at + 16 * n) (s ++ d))) (returned at p t) (at + 16 * n)
+  few_on n s r d o p t at hs hr e R hd hp et =
+      let room : 16 * n ≤ length (drop at d) = rw length-drop (omega arith) in
+      reached_on (cbc_decrypt (reverse back)) s d o r p at (rw (← e) at R) n _ t hd hp
+      (λ i h. decrypt-block _ _ _ (full_state r (drop at d) n i hr room h)) (fed_next n s r d at hs hr e) (rw (tail_is d at) at et)

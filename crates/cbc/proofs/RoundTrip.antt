@@ -1,5 +1,5 @@
 -- What Cbc seals, Cbc opens, for any round keys; and what sealing gives: full blocks.
-use Rattle.cbc.proofs.Names.{Any, AreBytes, Done, List, Undoes, ◌%◌, ◌*◌, ◌+◌, ◌-◌, ◌/◌, ◌∙◌, ◌≡◌, ◌≤◌, arith, below-append}
+use Rattle.cbc.proofs.Names.{Any, AreBytes, List, Ok, Undoes, ◌%◌, ◌*◌, ◌+◌, ◌-◌, ◌/◌, ◌∙◌, ◌≡◌, ◌≤◌, arith, below-append}
 use Rattle.cbc.proofs.Names.{below-replicate, block-decrypt-encrypt, cbc_decrypt, cbc_encrypt, cbc_seal, cbc_text, chain, chain_length}
 use Rattle.cbc.proofs.Names.{encrypt_block-bytes, into, length, length-encrypt_block, length-padded, length-xors, opened_into, over}
 use Rattle.cbc.proofs.Names.{padded, padded-unpadded, padding, refl, take-append_seam, undo, unpadded, xors, xors-below, xors_cancel}
@@ -54,7 +54,7 @@ module _ (rk iv d : List ℕ) (sixteen : length iv ≡ 16) (iv-bytes : AreBytes 
       (sixteen, iv-bytes) (padded-whole d, padded-bytes d d-bytes)
 
   -- the message comes back, and no byte past it is written
-  pub cbc_back : (o : List ℕ) → let p = cbc_text rk iv (cbc_seal rk iv d) in (unpadded p ≡ Done (length d)) × (opened_into p o ≡ over d o)
+  pub cbc_back : (o : List ℕ) → let p = cbc_text rk iv (cbc_seal rk iv d) in (unpadded p ≡ Ok (length d)) × (opened_into p o ≡ over d o)
   cbc_back o =
       rw cbc_decrypted
-      (padded-unpadded d, into (padded d) o (Done (length d)) (padded-unpadded d) ∙ rw (take-append_seam d (padding (length d))))
+      (padded-unpadded d, into (padded d) o (Ok (length d)) (padded-unpadded d) ∙ rw (take-append_seam d (padding (length d))))

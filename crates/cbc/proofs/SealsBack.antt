@@ -1,5 +1,5 @@
 -- What Cbc opens, Cbc seals back to the same ciphertext, for any round keys.
-use Rattle.cbc.proofs.Names.{AreBytes, Done, List, Undoes, ◌%◌, ◌∙◌, ◌≡◌, ap, arith, block-encrypt-decrypt, cbc_decrypt, cbc_encrypt}
+use Rattle.cbc.proofs.Names.{AreBytes, List, Ok, Undoes, ◌%◌, ◌∙◌, ◌≡◌, ap, arith, block-encrypt-decrypt, cbc_decrypt, cbc_encrypt}
 use Rattle.cbc.proofs.Names.{cbc_seal, cbc_text, chain, decrypt_block, length, length-decrypt_block, take, undo, unpadded}
 use Rattle.cbc.proofs.Names.{unpadded-padded, xors_cancel, ℕ}
 use Rattle.cbc.proofs.Blocks.{Sixteen, Text, whole-short, whole-empty, text-front, text_back, decrypt-block, length-decrypt}
@@ -24,7 +24,7 @@ encrypt_undoes rk = record {
 }
 
 -- the ciphertext d, of which opening keeps n bytes
-pub cbc_seals_back : (rk iv d : List ℕ) (n : ℕ) → length iv ≡ 16 → AreBytes d → length d % 16 ≡ 0 → unpadded (cbc_text rk iv d) ≡ Done n
+pub cbc_seals_back : (rk iv d : List ℕ) (n : ℕ) → length iv ≡ 16 → AreBytes d → length d % 16 ≡ 0 → unpadded (cbc_text rk iv d) ≡ Ok n
     → cbc_seal rk iv (take n (cbc_text rk iv d)) ≡ d
 unfolding cbc_seal
 cbc_seals_back rk iv d n sixteen d-bytes whole e =

@@ -21,7 +21,7 @@ pub(crate) const SBOX: [u8; 256] = [
 ];
 
 // Entry b of table j: byte b by the S-box, at place j of a word, through L. The four stand one after the other.
-pub(crate) const MIXED: [u32; 1024] = [
+pub(crate) static MIXED: [u32; 1024] = [
     0x8ed5_5b5b,
     0xd092_4242,
     0x4dea_a7a7,

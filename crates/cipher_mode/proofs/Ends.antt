@@ -6,20 +6,13 @@ use Rattle.block.proofs.WordsBack.{length-unwords, unwords-words}
 use Rattle.cipher.specs.Sm4.{encrypt_words, decrypt_words, encrypt_block, decrypt_block}
 use Rattle.cipher_mode.specs.Outcome.{Head, Outcome, finished, telling, leaving, reporting, done}
 use Rattle.block.specs.Over.{over}
-use Rattle.cipher_mode.specs.declared.checks.Checked.{Checked}
-use Rattle.cipher_mode.specs.declared.checks.Checked.TheVariants.{Passed}
 use Rattle.cipher_mode.specs.declared.Direction.{Direction}
 use Rattle.cipher_mode.specs.declared.Direction.TheVariants.{Encrypt, Decrypt}
-use Rattle.cipher_mode.specs.Checks.{checked}
 use Rattle.cipher_mode.specs.Calls.{keys_for, block_of}
 
 -- a report that is another leaves what that leaves
 pub leaves : {h i : Head} {x : Outcome} (o : List ℕ) → h ≡ i → leaving i o ≡ x → leaving h o ≡ x
 leaves o e f = ap {B = Outcome} (λ (h : Head). leaving h o) e ∙ f
-
--- the check passed, and the work left what comes next
-pub went_on : (k : Checked) (o : List ℕ) (x next : Outcome) → k ≡ Passed → x ≡ next → x ≡ checked k o next
-went_on k o x next f e = e ∙ sym (ap {B = Outcome} (λ (y : Checked). checked y o next) f)
 
 -- the result p was written to the front of the output, and n is its length
 pub reached : (p o o' : List ℕ) (n : ℕ) → length p ≡ n → o' ≡ over p o → leaving (finished n) o' ≡ done p o

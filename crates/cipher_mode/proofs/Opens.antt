@@ -3,37 +3,44 @@ use Rattle.block.proofs.Base.{◌-◌, ℕ, ◌∙◌, ◌≡◌, ap, ap₂, ref
 use Rattle.block.specs.Below.{AreBytes}
 use Rattle.block.specs.Over.{over}
 use Rattle.padding.specs.Padding.{unpadded, kept, opened_into}
-use Rattle.padding.specs.declared.Opened.{Opened}
-use Rattle.padding.specs.declared.Opened.TheVariants.{Done, InvalidLastU8, InvalidPadding}
+use Rattle.padding.specs.declared.BadPadding.{BadPadding}
+use Rattle.padding.specs.declared.BadPadding.TheVariants.{InvalidLastU8, InvalidPadding}
+use Rattle.std.proofs.Common.{Result, Ok, Err}
 use Rattle.padding.proofs.Into.{into}
 use Rattle.cbc.specs.Cbc.{cbc_seal, cbc_text}
 use Rattle.cbc.proofs.RoundTrip.{cbc_back}
 use Rattle.gcm.specs.Gcm.{text_part, text_of, opens_under, text_into}
 use Rattle.gcm.proofs.Settled.{into_refused, into_opened, text-size}
 use Rattle.cipher_mode.specs.Outcome.{Head, Outcome, finished, refusal, refused, telling, leaving, reporting, written, done}
+use Rattle.cipher_mode.specs.Answer.{padding_refusal, refusal_head}
 use Rattle.cipher_mode.specs.Calls.{cbc_head, cbc_open, gcm_open}
 
+-- a padding that is none is reported by its refusal
+pub padding_head : (b : BadPadding) → refusal_head (padding_refusal b) ≡ cbc_head (Err b)
+padding_head InvalidLastU8 = refl
+padding_head InvalidPadding = refl
+
 -- what is reported is what is written
-reported : (a : Opened) → (cbc_head a).size ≡ kept a
-reported (Done n) = refl
-reported InvalidLastU8 = refl
-reported InvalidPadding = refl
+reported : (a : Result ℕ BadPadding) → (cbc_head a).size ≡ kept a
+reported (Ok n) = refl
+reported (Err InvalidLastU8) = refl
+reported (Err InvalidPadding) = refl
 
 -- what `cbc::decrypt` leaves
-pub cbc_left : (rk iv d o w : List ℕ) (a : Opened) → a ≡ unpadded (cbc_text rk iv d) → w ≡ opened_into (cbc_text rk iv d) o
+pub cbc_left : (rk iv d o w : List ℕ) (a : Result ℕ BadPadding) → a ≡ unpadded (cbc_text rk iv d) → w ≡ opened_into (cbc_text rk iv d) o
     → leaving (cbc_head a) w ≡ cbc_open rk iv d o
 unfolding cbc_open
 cbc_left rk iv d o w a e f =
     let p = cbc_text rk iv d in
     ap₂ {C = Outcome} leaving refl (f ∙ into p o a (sym e) ∙ ap (λ (k : ℕ). over (take k p) o) (sym (reported a)))
-    ∙ ap {B = Outcome} (λ (x : Opened). written (cbc_head x) p o) e
+    ∙ ap {B = Outcome} (λ (x : Result ℕ BadPadding). written (cbc_head x) p o) e
 
 -- what Cbc sealed opens to its message, and no byte past it is written
 pub cbc_opens_back : (rk iv d : List ℕ) → length iv ≡ 16 → AreBytes iv → AreBytes d → (o : List ℕ)
     → cbc_open rk iv (cbc_seal rk iv d) o ≡ done d o
 cbc_opens_back rk iv d n bi bd o =
     let b = cbc_back rk iv d n bi bd o in
-    sym (cbc_left rk iv (cbc_seal rk iv d) o (over d o) (Done (length d)) (sym b.0) (sym b.1))
+    sym (cbc_left rk iv (cbc_seal rk iv d) o (over d o) (Ok (length d)) (sym b.0) (sym b.1))
 
 module _ (rk : List ℕ) (h : ℕ) (j label s o : List ℕ) where
   -- refused, with the output as it was lent

@@ -1,13 +1,11 @@
 -- Every refusal has a number that is not 0, reports length 0, and says nothing of a counter.
 use Rattle.block.proofs.Base.{◌<◌, ℕ, ◌≡◌, ap, refl, sym, ◌≢◌, false, arith}
 use Rattle.cipher_mode.specs.Outcome.{Head, refusal, telling}
-use Rattle.cipher_mode.specs.Answer.{refusal_head, ending_head}
+use Rattle.cipher_mode.specs.Answer.{refusal_head}
 use Rattle.cipher_mode.specs.declared.answer.Refusal.{Refusal}
 use Rattle.cipher_mode.specs.declared.answer.Refusal.TheVariants.{ErrorBlockSize, ErrorDataLen, InvalidLastU8, InvalidTag}
 use Rattle.cipher_mode.specs.declared.answer.Refusal.TheVariants.{TooLong, NoRoom, EmptyCbc, ShortGcm, WrongIv, WrongBlock, Ended}
 use Rattle.cipher_mode.specs.declared.answer.Refusal.TheVariants.{WrongNumber, Retired, InvalidPadding}
-use Rattle.cipher_mode.specs.declared.answer.Ending.{Ending}
-use Rattle.cipher_mode.specs.declared.answer.Ending.TheVariants.{Done, Refused}
 
 -- what every refusal reports
 pub record Refuses (h : Head) : Type 0 where
@@ -34,10 +32,9 @@ refuses WrongNumber = by_number 13 (omega arith)
 refuses Retired = by_number 14 (omega arith)
 refuses InvalidPadding = by_number 15 (omega arith)
 
--- so no ending says anything of a counter by itself
-pub quiet_ending : (e : Ending) → telling false (ending_head e) ≡ ending_head e
-quiet_ending (Done n) = refl
-quiet_ending (Refused r) =
+-- so none says anything of a counter
+pub quiet_refusal : (r : Refusal) → telling false (refusal_head r) ≡ refusal_head r
+quiet_refusal r =
     let h = refusal_head r in
     ap {B = Head} (λ (c : ℕ). record { number = h.number; size = h.size; missing = h.missing; came_round = c; key = h.key })
     (sym (refuses r).no_round)

@@ -1,5 +1,5 @@
 -- The public calls: what each one leaves, from the inputs alone.
-use Rattle.std.specs.Prelude.{ℕ, ◌-◌, Bool, cond, List, reverse, length}
+use Rattle.std.specs.Prelude.{ℕ, ◌-◌, Bool, cond, List, Result, Ok, Err, reverse, length}
 use Rattle.cipher.specs.Sm4.{encrypt_block, decrypt_block}
 use Rattle.counter.specs.Counter.{last_four}
 use Rattle.counter.specs.CameRound.{blocks_of, ctr_came_round, gcm_came_round}
@@ -8,8 +8,8 @@ use Rattle.stream.specs.Stream.{stream_mode}
 use Rattle.stream.specs.declared.Kind.{Kind}
 use Rattle.stream.specs.declared.Kind.TheVariants.{CfbEncrypt, CfbDecrypt, Ofb as OfbKind, Ctr as CtrKind}
 use Rattle.padding.specs.Padding.{unpadded}
-use Rattle.padding.specs.declared.Opened.{Opened}
-use Rattle.padding.specs.declared.Opened.TheVariants.{Done, InvalidLastU8, InvalidPadding}
+use Rattle.padding.specs.declared.BadPadding.{BadPadding}
+use Rattle.padding.specs.declared.BadPadding.TheVariants.{InvalidLastU8, InvalidPadding}
 use Rattle.cbc.specs.Cbc.{cbc_seal, cbc_text}
 use Rattle.gcm.specs.Gcm.{hash_key, J0, sealed, text_part, text_of, opens_under}
 use Rattle.cipher_mode.specs.Outcome.{Head, Outcome, finished, refusal, keyed, reporting, written, done}
@@ -33,22 +33,23 @@ abbrev pub block_of : Direction → List ℕ → List ℕ → List ℕ
 block_of Encrypt rk b = encrypt_block rk b
 block_of Decrypt rk b = decrypt_block rk b
 
+-- how a single block b ends, into the output o, whichever key it is on
+abbrev pub block_ended : Direction → Sm4Cipher → List ℕ → List ℕ → Outcome
+block_ended dir c b o = checked (block_check c.answer c.retired dir (length b) (length o)) o (done (block_of dir c.rk b) o)
+
 -- a single block b, into the output o
 unfoldable pub block_call : Direction → Sm4Cipher → List ℕ → List ℕ → Outcome
-block_call dir c b o =
-    keyed (key_number c)
-    (checked (block_check c.answer c.retired dir (length b) (length o)) o
-    (done (block_of dir c.rk b) o))
+block_call dir c b o = keyed (key_number c) (block_ended dir c b o)
 
 abbrev pub cfb_kind : Direction → Kind
 cfb_kind Encrypt = CfbEncrypt
 cfb_kind Decrypt = CfbDecrypt
 
 -- what an opening in Cbc reports, by what is decided of the padding
-abbrev pub cbc_head : Opened → Head
-cbc_head (Done n) = finished n
-cbc_head InvalidLastU8 = refusal 3
-cbc_head InvalidPadding = refusal 15
+abbrev pub cbc_head : Result ℕ BadPadding → Head
+cbc_head (Ok n) = finished n
+cbc_head (Err InvalidLastU8) = refusal 3
+cbc_head (Err InvalidPadding) = refusal 15
 
 -- opening the Cbc message d into the output o
 unfoldable pub cbc_open : List ℕ → List ℕ → List ℕ → List ℕ → Outcome
@@ -88,9 +89,12 @@ mode_result Gcm dir rk aad d iv o = gcm_result dir rk aad d iv o
 abbrev pub lengths_of : List ℕ → List ℕ → List ℕ → List ℕ → Lengths
 lengths_of aad d iv o = record { iv = length iv; label = length aad; «data» = length d; room = length o }
 
+-- how the data d ends under the label aad and the IV iv, into the output o, whichever key it is on
+abbrev pub mode_ended : Direction → Sm4CipherMode → List ℕ → List ℕ → List ℕ → List ℕ → Outcome
+mode_ended dir m aad d iv o =
+    checked (message_check m.cipher.answer m.cipher.retired dir m.mode (lengths_of aad d iv o)) o
+    (mode_result m.mode dir m.cipher.rk aad d iv o)
+
 -- the data d under the label aad and the IV iv, into the output o
 unfoldable pub mode_call : Direction → Sm4CipherMode → List ℕ → List ℕ → List ℕ → List ℕ → Outcome
-mode_call dir m aad d iv o =
-    keyed (key_number m.cipher)
-    (checked (message_check m.cipher.answer m.cipher.retired dir m.mode (lengths_of aad d iv o)) o
-    (mode_result m.mode dir m.cipher.rk aad d iv o))
+mode_call dir m aad d iv o = keyed (key_number m.cipher) (mode_ended dir m aad d iv o)

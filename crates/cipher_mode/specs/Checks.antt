@@ -1,6 +1,6 @@
 -- What is refused before a byte is looked at, in the order of docs/REQUIREMENTS.md and by stages: key and IV, which end with
 -- whether the key may encrypt, then label, data and room.
-use Rattle.std.specs.Prelude.{ℕ, ◌-◌, ◌%◌, Bool, not, ◌&&◌, cond, List, eqb, ltb}
+use Rattle.std.specs.Prelude.{ℕ, ◌-◌, ◌%◌, Bool, not, ◌&&◌, cond, List, Result, Ok, Err, eqb, ltb}
 use Rattle.cipher_mode.specs.Outcome.{Outcome, leaving}
 use Rattle.cipher_mode.specs.declared.KeyAnswer.{KeyAnswer}
 use Rattle.cipher_mode.specs.declared.KeyAnswer.TheVariants.{Key, ErrorBlockSize as NoKey, WrongNumber as NoNumber}
@@ -11,26 +11,28 @@ use Rattle.cipher_mode.specs.declared.Direction.TheVariants.{Encrypt, Decrypt}
 use Rattle.cipher_mode.specs.declared.answer.Refusal.{Refusal}
 use Rattle.cipher_mode.specs.declared.answer.Refusal.TheVariants.{ErrorBlockSize, ErrorDataLen, TooLong, NoRoom, EmptyCbc, ShortGcm}
 use Rattle.cipher_mode.specs.declared.answer.Refusal.TheVariants.{WrongIv, WrongBlock, WrongNumber, Retired}
-use Rattle.cipher_mode.specs.declared.checks.Checked.{Checked}
-use Rattle.cipher_mode.specs.declared.checks.Checked.TheVariants.{Passed, Refused}
 use Rattle.cipher_mode.specs.declared.checks.Lengths.{Lengths}
 use Rattle.cipher_mode.specs.Answer.{refusal_head}
 use Rattle.cipher_mode.specs.Tables.{limit, limit_of, room_of}
 
+-- what a check says: it passed, or what it refuses
+abbrev pub Checked : Type 0
+Checked = Result (Unit {0}) Refusal
+
 -- where the test holds, the refusal r; otherwise what comes next
 abbrev pub refuse : Bool → Refusal → Checked → Checked
-refuse test r next = cond test (Refused r) next
+refuse test r next = cond test (Err r) next
 
 -- one stage and then the next
 abbrev pub and_then : Checked → Checked → Checked
-and_then Passed next = next
-and_then (Refused r) next = Refused r
+and_then (Ok _) next = next
+and_then (Err r) next = Err r
 
 -- a key's answer that is no key is refused as it was when the key was set up
 abbrev pub key_check : KeyAnswer → Checked
-key_check Key = Passed
-key_check NoKey = Refused ErrorBlockSize
-key_check NoNumber = Refused WrongNumber
+key_check Key = Ok tt
+key_check NoKey = Err ErrorBlockSize
+key_check NoNumber = Err WrongNumber
 
 -- an IV of n bytes that the mode does not take: it takes 16 bytes, and in Gcm 12 as well
 abbrev pub wrong_iv : CipherMode → ℕ → Bool
@@ -42,8 +44,8 @@ wrong_iv Gcm n = not (eqb n 12) && not (eqb n 16)
 
 -- a retired key does not encrypt
 abbrev pub retired_check : Direction → Bool → Checked
-retired_check Encrypt retired = refuse retired Retired Passed
-retired_check Decrypt retired = Passed
+retired_check Encrypt retired = refuse retired Retired (Ok tt)
+retired_check Decrypt retired = Ok tt
 
 unfoldable pub key_and_iv : KeyAnswer → Bool → Direction → CipherMode → ℕ → Checked
 key_and_iv a retired dir m iv =
@@ -53,29 +55,29 @@ key_and_iv a retired dir m iv =
 
 -- only Gcm looks at the label
 abbrev pub label_check : CipherMode → ℕ → Checked
-label_check Cfb n = Passed
-label_check Ofb n = Passed
-label_check Ctr n = Passed
-label_check Cbc n = Passed
-label_check Gcm n = refuse (ltb limit n) TooLong Passed
+label_check Cfb n = Ok tt
+label_check Ofb n = Ok tt
+label_check Ctr n = Ok tt
+label_check Cbc n = Ok tt
+label_check Gcm n = refuse (ltb limit n) TooLong (Ok tt)
 
 -- the lengths of data to decrypt that are no message's
 abbrev pub shape_check : Direction → CipherMode → ℕ → Checked
-shape_check Encrypt m n = Passed
-shape_check Decrypt Cfb n = Passed
-shape_check Decrypt Ofb n = Passed
-shape_check Decrypt Ctr n = Passed
+shape_check Encrypt m n = Ok tt
+shape_check Decrypt Cfb n = Ok tt
+shape_check Decrypt Ofb n = Ok tt
+shape_check Decrypt Ctr n = Ok tt
 shape_check Decrypt Cbc n =
     refuse (eqb n 0) EmptyCbc
     (refuse (not (eqb (n % 16) 0)) ErrorDataLen
-    Passed)
-shape_check Decrypt Gcm n = refuse (ltb n 16) (ShortGcm (16 - n)) Passed
+    (Ok tt))
+shape_check Decrypt Gcm n = refuse (ltb n 16) (ShortGcm (16 - n)) (Ok tt)
 
 unfoldable pub data_check : Direction → CipherMode → ℕ → Checked
 data_check dir m n = refuse (ltb (limit_of dir m) n) TooLong (shape_check dir m n)
 
 unfoldable pub room_check : Direction → CipherMode → ℕ → ℕ → Checked
-room_check dir m n room = refuse (ltb room (room_of m dir n)) NoRoom Passed
+room_check dir m n room = refuse (ltb room (room_of m dir n)) NoRoom (Ok tt)
 
 -- a message, either way
 unfoldable pub message_check : KeyAnswer → Bool → Direction → CipherMode → Lengths → Checked
@@ -92,9 +94,9 @@ block_check a retired dir n room =
     (refuse (not (eqb n 16)) WrongBlock
     (and_then (retired_check dir retired)
     (refuse (ltb room 16) NoRoom
-    Passed)))
+    (Ok tt))))
 
 -- a call: what was refused, with the output o as it was lent, or what comes next
 abbrev pub checked : Checked → List ℕ → Outcome → Outcome
-checked Passed o next = next
-checked (Refused r) o next = leaving (refusal_head r) o
+checked (Ok _) o next = next
+checked (Err r) o next = leaving (refusal_head r) o

@@ -1,6 +1,7 @@
 -- Which engine a message goes by: by the key's mark and, where that leaves it open, by whether its blocks wait for one another.
 use Rattle.std.specs.Prelude.{ℕ, Bool, true, false}
 use Rattle.cipher.specs.Engine.{chosen}
+use Rattle.cipher.specs.declared.Engine.{Engine}
 use Rattle.cipher_mode.specs.declared.CipherMode.{CipherMode}
 use Rattle.cipher_mode.specs.declared.CipherMode.TheVariants.{Cfb, Ofb, Ctr, Cbc, Gcm}
 use Rattle.cipher_mode.specs.declared.Direction.{Direction}
@@ -18,5 +19,5 @@ waits Ctr dir = false
 waits Cbc dir = forwards dir
 waits Gcm dir = false
 
-abbrev pub engine_for : ℕ → CipherMode → Direction → ℕ
+abbrev pub engine_for : ℕ → CipherMode → Direction → Engine
 engine_for mark mode dir = chosen mark (waits mode dir)

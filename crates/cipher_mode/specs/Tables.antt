@@ -1,7 +1,8 @@
 -- The tables of docs/REQUIREMENTS.md: the modes by number, the length limits, and the room needed.
-use Rattle.std.specs.Prelude.{ℕ, zero, suc, ◌+◌, ◌-◌, ◌*◌, ◌/◌}
+use Rattle.std.specs.Prelude.{ℕ, zero, suc, ◌+◌, ◌-◌, ◌*◌, ◌/◌, cond, ltb, Result, Ok, Err}
 use Rattle.cipher_mode.specs.declared.CipherMode.{CipherMode}
 use Rattle.cipher_mode.specs.declared.CipherMode.TheVariants.{Cfb, Ofb, Ctr, Cbc, Gcm}
+use Rattle.cipher_mode.specs.declared.BadMode.{BadMode}
 use Rattle.cipher_mode.specs.declared.Direction.{Direction}
 use Rattle.cipher_mode.specs.declared.Direction.TheVariants.{Encrypt, Decrypt}
 
@@ -12,6 +13,10 @@ mode_of (suc zero) = Ofb
 mode_of (suc (suc zero)) = Ctr
 mode_of (suc (suc (suc zero))) = Cbc
 mode_of (suc (suc (suc (suc n)))) = Gcm
+
+-- the mode of a number, where it is one's
+abbrev pub mode_numbered : ℕ → Result CipherMode BadMode
+mode_numbered n = cond (ltb 4 n) (Err (record {})) (Ok (mode_of n))
 
 -- data to encrypt, in every mode, and Gcm's label
 abbrev pub limit : ℕ

@@ -1,13 +1,16 @@
 // What a call answers. Every head is made here.
 ghost use Rattle.std.specs.Prelude.{◌≡◌};
 ghost use Rattle.cipher_mode.specs.Outcome.{finished, under, telling};
-ghost use Rattle.cipher_mode.specs.Answer.{refusal_head, head_of};
+ghost use Rattle.cipher_mode.specs.Answer.{padding_refusal, refusal_head, head_of};
+
+use crate::Done;
+use padding::BadPadding;
 
 // Why a call was refused, by the names of libsm and, after them, those that tell the lengths apart: Cbc decryption of
 // nothing; a Gcm message or tag that is not as long as it must be, with how many bytes were missing; a wrong IV; a wrong
 // single block. Then come a message in pieces that has come to its end, a key's number out of range, encrypting under a
 // retired key, and a Cbc padding whose bytes are not all its count.
-#[derive(Clone, Copy)]
+#[derive(Clone, Copy, PartialEq, Eq, Debug)]
 pub enum Refusal {
     ErrorBlockSize,
     ErrorDataLen,
@@ -25,23 +28,26 @@ pub enum Refusal {
     InvalidPadding,
 }
 
-// How a call ended: done with a length, or refused.
-#[derive(Clone, Copy)]
-pub enum Ending {
-    Done(usize),
-    Refused(Refusal),
+// Why a Cbc message did not open.
+impl From<BadPadding> for Refusal {
+    ghost from_gives = { λ bad r. r ≡ padding_refusal bad };
+
+    fn from(bad: BadPadding) -> Refusal {
+        match bad {
+            BadPadding::InvalidLastU8 => Refusal::InvalidLastU8,
+            BadPadding::InvalidPadding => Refusal::InvalidPadding,
+        }
+    }
 }
 
-// How it ended; whether the counter of the message came round, which a refusal never says; and the number of the key that it was
-// made on: 0 where no key stands.
-#[derive(Clone, Copy)]
+// How a call ended, and the number of the key that it was made on: 0 where no key stands, as in the host's structs.
+#[derive(Clone, Copy, PartialEq, Eq, Debug)]
 pub struct Answer {
-    pub ending: Ending,
-    pub came_round: bool,
+    pub ending: Result<Done, Refusal>,
     pub key: u16,
 }
 
-// The number of a refusal, as in docs/NUMBERS.md.
+// The number of a refusal, as in docs/NUMBERS.md. No From: docs/PROMISES.md names this function, and `missing`.
 pub fn number(refusal: Refusal) -> u32
     ensures { result ≡ (refusal_head refusal).number }
 {
@@ -63,36 +69,20 @@ pub fn number(refusal: Refusal) -> u32
     }
 }
 
-// How many bytes were missing: of refusal 9 alone.
+// How many bytes were missing: of refusal 9 alone, and 0 of every other, as the host's structs have it.
 pub fn missing(refusal: Refusal) -> u8
     ensures { result ≡ (refusal_head refusal).missing }
 {
     match refusal {
-        Refusal::ErrorBlockSize => 0,
-        Refusal::ErrorDataLen => 0,
-        Refusal::InvalidLastU8 => 0,
-        Refusal::InvalidTag => 0,
-        Refusal::TooLong => 0,
-        Refusal::NoRoom => 0,
-        Refusal::EmptyCbc => 0,
         Refusal::ShortGcm(n) => n,
-        Refusal::WrongIv => 0,
-        Refusal::WrongBlock => 0,
-        Refusal::Ended => 0,
-        Refusal::WrongNumber => 0,
-        Refusal::Retired => 0,
-        Refusal::InvalidPadding => 0,
+        _ => 0,
     }
 }
 
 pub fn done(key: u16, length: usize) -> Answer
     ensures { head_of result ≡ under key (finished «length») }
 {
-    Answer {
-        ending: Ending::Done(length),
-        came_round: false,
-        key,
-    }
+    done_round(key, length, false)
 }
 
 // Done with a message whose counter came round, or did not.
@@ -100,8 +90,7 @@ pub fn done_round(key: u16, length: usize, came_round: bool) -> Answer
     ensures { head_of result ≡ under key (telling came_round (finished «length»)) }
 {
     Answer {
-        ending: Ending::Done(length),
-        came_round,
+        ending: Ok(Done { length, came_round }),
         key,
     }
 }
@@ -110,8 +99,7 @@ pub fn refused(key: u16, refusal: Refusal) -> Answer
     ensures { head_of result ≡ under key (refusal_head refusal) }
 {
     Answer {
-        ending: Ending::Refused(refusal),
-        came_round: false,
+        ending: Err(refusal),
         key,
     }
 }

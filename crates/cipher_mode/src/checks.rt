@@ -8,19 +8,13 @@ use crate::answer::Refusal;
 use crate::{CipherMode, Direction, KeyAnswer};
 
 // The longest data to encrypt, the longest label of Gcm, and the longest data to decrypt in Cfb, Ofb and Ctr.
-pub const LIMIT: usize = 16777216;
+pub const LIMIT: usize = 16_777_216;
 
 // The longest data to decrypt in Cbc and Gcm: a block more.
-pub const SEALED_LIMIT: usize = 16777232;
-
-#[derive(Clone, Copy)]
-pub enum Checked {
-    Passed,
-    Refused(Refusal),
-}
+pub const SEALED_LIMIT: usize = LIMIT + 16;
 
 // How many bytes a call was lent of each kind.
-#[derive(Clone, Copy)]
+#[derive(Clone, Copy, PartialEq, Eq, Debug)]
 pub struct Lengths {
     pub iv: usize,
     pub label: usize,
@@ -29,13 +23,13 @@ pub struct Lengths {
 }
 
 // A key's answer that is no key is refused as it was when the key was set up.
-fn key(answer: KeyAnswer) -> Checked
+fn key(answer: KeyAnswer) -> Result<(), Refusal>
     ensures { result ≡ key_check answer }
 {
     match answer {
-        KeyAnswer::Key => Checked::Passed,
-        KeyAnswer::ErrorBlockSize => Checked::Refused(Refusal::ErrorBlockSize),
-        KeyAnswer::WrongNumber => Checked::Refused(Refusal::WrongNumber),
+        KeyAnswer::Key => Ok(()),
+        KeyAnswer::ErrorBlockSize => Err(Refusal::ErrorBlockSize),
+        KeyAnswer::WrongNumber => Err(Refusal::WrongNumber),
     }
 }
 
@@ -44,28 +38,23 @@ fn wrong_iv(mode: CipherMode, n: usize) -> bool
     ensures { result ≡ wrong_iv mode n }
 {
     match mode {
-        CipherMode::Cfb => n != 16,
-        CipherMode::Ofb => n != 16,
-        CipherMode::Ctr => n != 16,
-        CipherMode::Cbc => n != 16,
         CipherMode::Gcm => n != 12 && n != 16,
+        _ => n != 16,
     }
 }
 
 // A retired key does not encrypt.
-fn retired(direction: Direction, retired: bool) -> Checked
+fn retired(direction: Direction, retired: bool) -> Result<(), Refusal>
     ensures { result ≡ retired_check direction retired }
 {
-    let Direction::Encrypt = direction else {
-        return Checked::Passed;
-    };
-    if retired {
-        return Checked::Refused(Refusal::Retired);
+    match direction {
+        Direction::Encrypt if retired => Err(Refusal::Retired),
+        _ => Ok(()),
     }
-    Checked::Passed
 }
 
-// The key's answer is a key, the IV has a size that the mode takes, and the key may do what is asked.
+// The key's answer is a key, the IV has a size that the mode takes, and the key may do what is asked. Answer and mark come apart from the
+// key's record, as the definitions have them (`key_and_iv`, `message_check`, `block_check`).
 #[tactic(auto, unfolding(crate::specs::Checks::key_and_iv))]
 pub fn key_and_iv(
     answer: KeyAnswer,
@@ -73,88 +62,54 @@ pub fn key_and_iv(
     direction: Direction,
     mode: CipherMode,
     iv: usize,
-) -> Checked
+) -> Result<(), Refusal>
     ensures { result ≡ key_and_iv answer mark direction mode iv }
 {
-    let first = key(answer);
-    let Checked::Passed = first else {
-        return first;
-    };
+    key(answer)?;
     if wrong_iv(mode, iv) {
-        return Checked::Refused(Refusal::WrongIv);
+        return Err(Refusal::WrongIv);
     }
     retired(direction, mark)
 }
 
 // Only Gcm looks at the label.
-pub fn label(mode: CipherMode, n: usize) -> Checked
+pub fn label(mode: CipherMode, n: usize) -> Result<(), Refusal>
     ensures { result ≡ label_check mode n }
 {
     match mode {
-        CipherMode::Cfb => Checked::Passed,
-        CipherMode::Ofb => Checked::Passed,
-        CipherMode::Ctr => Checked::Passed,
-        CipherMode::Cbc => Checked::Passed,
-        CipherMode::Gcm => {
-            if n > LIMIT {
-                return Checked::Refused(Refusal::TooLong);
-            }
-            Checked::Passed
-        }
+        CipherMode::Gcm if n > LIMIT => Err(Refusal::TooLong),
+        _ => Ok(()),
     }
 }
 
 pub fn limit_of(direction: Direction, mode: CipherMode) -> usize
     ensures { result ≡ limit_of direction mode }
 {
-    let Direction::Decrypt = direction else {
-        return LIMIT;
-    };
-    match mode {
-        CipherMode::Cfb => LIMIT,
-        CipherMode::Ofb => LIMIT,
-        CipherMode::Ctr => LIMIT,
-        CipherMode::Cbc => SEALED_LIMIT,
-        CipherMode::Gcm => SEALED_LIMIT,
+    match (direction, mode) {
+        (Direction::Decrypt, CipherMode::Cbc | CipherMode::Gcm) => SEALED_LIMIT,
+        _ => LIMIT,
     }
 }
 
 // The lengths of data to decrypt that nothing was ever encrypted to: Cbc gives full blocks, and at least one, and Gcm a tag, and before it
 // the text.
-fn shape(direction: Direction, mode: CipherMode, n: usize) -> Checked
+fn shape(direction: Direction, mode: CipherMode, n: usize) -> Result<(), Refusal>
     ensures { result ≡ shape_check direction mode n }
 {
-    let Direction::Decrypt = direction else {
-        return Checked::Passed;
-    };
-    match mode {
-        CipherMode::Cfb => Checked::Passed,
-        CipherMode::Ofb => Checked::Passed,
-        CipherMode::Ctr => Checked::Passed,
-        CipherMode::Cbc => {
-            if n == 0 {
-                return Checked::Refused(Refusal::EmptyCbc);
-            }
-            if n % 16 != 0 {
-                return Checked::Refused(Refusal::ErrorDataLen);
-            }
-            Checked::Passed
-        }
-        CipherMode::Gcm => {
-            if n < 16 {
-                return Checked::Refused(Refusal::ShortGcm((16 - n) as u8));
-            }
-            Checked::Passed
-        }
+    match (direction, mode) {
+        (Direction::Decrypt, CipherMode::Cbc) if n == 0 => Err(Refusal::EmptyCbc),
+        (Direction::Decrypt, CipherMode::Cbc) if n % 16 != 0 => Err(Refusal::ErrorDataLen),
+        (Direction::Decrypt, CipherMode::Gcm) if n < 16 => Err(Refusal::ShortGcm((16 - n) as u8)),
+        _ => Ok(()),
     }
 }
 
 #[tactic(auto, unfolding(crate::specs::Checks::data_check))]
-pub fn data(direction: Direction, mode: CipherMode, n: usize) -> Checked
+pub fn data(direction: Direction, mode: CipherMode, n: usize) -> Result<(), Refusal>
     ensures { result ≡ data_check direction mode n }
 {
     if n > limit_of(direction, mode) {
-        return Checked::Refused(Refusal::TooLong);
+        return Err(Refusal::TooLong);
     }
     shape(direction, mode, n)
 }
@@ -165,40 +120,33 @@ pub fn encrypted_length(mode: CipherMode, n: usize) -> usize
     ensures { result ≡ room_of mode Direction.Encrypt n }
 {
     match mode {
-        CipherMode::Cfb => n,
-        CipherMode::Ofb => n,
-        CipherMode::Ctr => n,
+        CipherMode::Cfb | CipherMode::Ofb | CipherMode::Ctr => n,
         CipherMode::Cbc => 16 * (n / 16 + 1),
         CipherMode::Gcm => n + 16,
     }
 }
 
 fn room_of(direction: Direction, mode: CipherMode, n: usize) -> usize
-    requires { data_check direction mode n ≡ Checked.Passed }
+    requires { data_check direction mode n ≡ Ok tt }
     ensures { result ≡ room_of mode direction n }
 {
-    match direction {
-        Direction::Encrypt => encrypted_length(mode, n),
-        Direction::Decrypt => match mode {
-            CipherMode::Cfb => n,
-            CipherMode::Ofb => n,
-            CipherMode::Ctr => n,
-            CipherMode::Cbc => n,
-            CipherMode::Gcm => n - 16,
-        },
+    match (direction, mode) {
+        (Direction::Encrypt, _) => encrypted_length(mode, n),
+        (Direction::Decrypt, CipherMode::Gcm) => n - 16,
+        (Direction::Decrypt, _) => n,
     }
 }
 
 // The room, for data that is in order.
 #[tactic(auto, unfolding(crate::specs::Checks::room_check))]
-pub fn room(direction: Direction, mode: CipherMode, n: usize, room: usize) -> Checked
-    requires { data_check direction mode n ≡ Checked.Passed }
+pub fn room(direction: Direction, mode: CipherMode, n: usize, room: usize) -> Result<(), Refusal>
+    requires { data_check direction mode n ≡ Ok tt }
     ensures { result ≡ room_check direction mode n room }
 {
     if room < room_of(direction, mode, n) {
-        return Checked::Refused(Refusal::NoRoom);
+        return Err(Refusal::NoRoom);
     }
-    Checked::Passed
+    Ok(())
 }
 
 // A message, either way: all stages.
@@ -209,42 +157,33 @@ pub fn message(
     direction: Direction,
     mode: CipherMode,
     n: Lengths,
-) -> Checked
+) -> Result<(), Refusal>
     ensures { result ≡ message_check answer mark direction mode n }
 {
-    let first = key_and_iv(answer, mark, direction, mode, n.iv);
-    let Checked::Passed = first else {
-        return first;
-    };
-    let second = label(mode, n.label);
-    let Checked::Passed = second else {
-        return second;
-    };
-    let third = data(direction, mode, n.data);
-    let Checked::Passed = third else {
-        return third;
-    };
+    key_and_iv(answer, mark, direction, mode, n.iv)?;
+    label(mode, n.label)?;
+    data(direction, mode, n.data)?;
     room(direction, mode, n.data, n.room)
 }
 
 // A single block, either way.
 #[tactic(auto, unfolding(crate::specs::Checks::block_check))]
-pub fn block(answer: KeyAnswer, mark: bool, direction: Direction, n: usize, room: usize) -> Checked
+pub fn block(
+    answer: KeyAnswer,
+    mark: bool,
+    direction: Direction,
+    n: usize,
+    room: usize,
+) -> Result<(), Refusal>
     ensures { result ≡ block_check answer mark direction n room }
 {
-    let first = key(answer);
-    let Checked::Passed = first else {
-        return first;
-    };
+    key(answer)?;
     if n != 16 {
-        return Checked::Refused(Refusal::WrongBlock);
+        return Err(Refusal::WrongBlock);
     }
-    let second = retired(direction, mark);
-    let Checked::Passed = second else {
-        return second;
-    };
+    retired(direction, mark)?;
     if room < 16 {
-        return Checked::Refused(Refusal::NoRoom);
+        return Err(Refusal::NoRoom);
     }
-    Checked::Passed
+    Ok(())
 }

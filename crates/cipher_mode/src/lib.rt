@@ -8,25 +8,35 @@ pub mod checks;
 mod work;
 
 ghost use Rattle.std.specs.Prelude.{◌≡◌};
-ghost use Rattle.cipher_mode.specs.Answer.{outcome};
+ghost use Rattle.cipher_mode.specs.Answer.{ended, outcome};
 ghost use Rattle.cipher_mode.specs.Key.{no_cipher, new_cipher, retire, with_engine, number_in, new_cipher_mode};
 ghost use Rattle.cipher_mode.specs.Engines.{forwards, waits, engine_for};
-ghost use Rattle.cipher_mode.specs.Tables.{mode_of};
-ghost use Rattle.cipher_mode.specs.Calls.{block_call, mode_call};
+ghost use Rattle.cipher_mode.specs.Tables.{mode_of, mode_numbered};
+ghost use Rattle.cipher_mode.specs.Calls.{block_ended, block_call, mode_ended, mode_call};
 
-use answer::Answer;
-use checks::{Checked, Lengths};
+use answer::{Answer, Refusal};
+use checks::Lengths;
+use cipher::Engine;
+use work::Message;
+
+// What was done: how many bytes are the result, and whether the counter of the message came round.
+#[derive(Clone, Copy, PartialEq, Eq, Debug)]
+pub struct Done {
+    pub length: usize,
+    pub came_round: bool,
+}
 
 // What setting up a key answers.
-#[derive(Clone, Copy)]
+#[derive(Clone, Copy, PartialEq, Eq, Debug)]
 pub enum KeyAnswer {
     Key,
     ErrorBlockSize,
     WrongNumber,
 }
 
-// Round keys, beside the answer that says whether they are a key's; the key's number, whether it is retired, and the mark of the
-// engine that its rounds go by, which no outcome tells.
+// Round keys, beside the answer that says whether they are a key's, one of the nine forms (docs/DECISIONS.md); the key's number, whether
+// it is retired, and the mark of the engine that its rounds go by, which no outcome tells: the host's own number, kept as it came. No
+// Debug and no `==`, since it holds a key.
 #[derive(Clone, Copy)]
 pub struct Sm4Cipher {
     pub rk: [u32; 32],
@@ -36,7 +46,7 @@ pub struct Sm4Cipher {
     pub engine: u8,
 }
 
-#[derive(Clone, Copy)]
+#[derive(Clone, Copy, PartialEq, Eq, Debug)]
 pub enum CipherMode {
     Cfb,
     Ofb,
@@ -45,7 +55,7 @@ pub enum CipherMode {
     Gcm,
 }
 
-#[derive(Clone, Copy)]
+#[derive(Clone, Copy, PartialEq, Eq, Debug)]
 pub enum Direction {
     Encrypt,
     Decrypt,
@@ -58,18 +68,19 @@ pub struct Sm4CipherMode {
     pub mode: CipherMode,
 }
 
-// The number that the answers repeat of a record with this answer: 0 where no key stands.
+// The number that the answers repeat of a record with this answer: 0 where no key stands, as in the host's structs. Answer and number
+// come apart, as its definition `number_in` has them.
 pub fn number_in(answer: KeyAnswer, number: u16) -> u16
     ensures { result ≡ number_in answer number }
 {
     match answer {
         KeyAnswer::Key => number,
-        KeyAnswer::ErrorBlockSize => 0,
-        KeyAnswer::WrongNumber => 0,
+        KeyAnswer::ErrorBlockSize | KeyAnswer::WrongNumber => 0,
     }
 }
 
-// The mode of a number; 4 and above are Gcm, and who has a number refuses what is above.
+// The mode of a number; 4 and above are Gcm, and who has a number refuses what is above. No From: it
+// would bring a `TryFrom` of its own, which cannot stand beside the one that refuses.
 #[tactic(auto, unfolding(crate::specs::Tables::mode_of))]
 pub fn mode_of(mode: u32) -> CipherMode
     ensures { result ≡ mode_of mode }
@@ -83,13 +94,27 @@ pub fn mode_of(mode: u32) -> CipherMode
     }
 }
 
+// A number that is no mode's.
+#[derive(Clone, Copy, PartialEq, Eq, Debug)]
+pub struct BadMode;
+
+impl TryFrom<u32> for CipherMode {
+    type Error = BadMode;
+
+    ghost try_from_gives = { λ number r. r ≡ mode_numbered number };
+
+    fn try_from(number: u32) -> Result<CipherMode, BadMode> {
+        match number {
+            0..=4 => Ok(mode_of(number)),
+            _ => Err(BadMode),
+        }
+    }
+}
+
 fn forwards(direction: Direction) -> bool
     ensures { result ≡ forwards direction }
 {
-    match direction {
-        Direction::Encrypt => true,
-        Direction::Decrypt => false,
-    }
+    matches!(direction, Direction::Encrypt)
 }
 
 // Whether each block of a message waits for the one before it.
@@ -97,16 +122,14 @@ fn waits(mode: CipherMode, direction: Direction) -> bool
     ensures { result ≡ waits mode direction }
 {
     match mode {
-        CipherMode::Cfb => forwards(direction),
+        CipherMode::Cfb | CipherMode::Cbc => forwards(direction),
         CipherMode::Ofb => true,
-        CipherMode::Ctr => false,
-        CipherMode::Cbc => forwards(direction),
-        CipherMode::Gcm => false,
+        CipherMode::Ctr | CipherMode::Gcm => false,
     }
 }
 
 // The engine that a message goes by under a mark.
-pub fn engine_for(mark: u8, mode: CipherMode, direction: Direction) -> u8
+pub fn engine_for(mark: u8, mode: CipherMode, direction: Direction) -> Engine
     ensures { result ≡ engine_for mark mode direction }
 {
     cipher::engine_of(mark, waits(mode, direction))
@@ -134,19 +157,15 @@ impl Sm4Cipher {
         if key.len() != 16 {
             return no_cipher(KeyAnswer::ErrorBlockSize);
         }
-        if number == 0 {
-            return no_cipher(KeyAnswer::WrongNumber);
-        }
-        if number > 65535 {
-            return no_cipher(KeyAnswer::WrongNumber);
-        }
-        let rk = cipher::key_schedule(key);
-        Sm4Cipher {
-            rk,
-            answer: KeyAnswer::Key,
-            number: number as u16,
-            retired: false,
-            engine: 0,
+        match u16::try_from(number) {
+            Ok(number) if number != 0 => Sm4Cipher {
+                rk: cipher::key_schedule(key),
+                answer: KeyAnswer::Key,
+                number,
+                retired: false,
+                engine: 0,
+            },
+            _ => no_cipher(KeyAnswer::WrongNumber),
         }
     }
 
@@ -159,15 +178,9 @@ impl Sm4Cipher {
         let KeyAnswer::Key = answer else {
             return self;
         };
-        let rk = self.rk;
-        let number = self.number;
-        let engine = self.engine;
         Sm4Cipher {
-            rk,
-            answer: KeyAnswer::Key,
-            number,
             retired: true,
-            engine,
+            ..self
         }
     }
 
@@ -177,30 +190,40 @@ impl Sm4Cipher {
     pub fn with_engine(self, engine: u8) -> Sm4Cipher
         ensures { result ≡ with_engine engine self }
     {
-        let rk = self.rk;
-        let answer = self.answer;
-        Sm4Cipher {
-            rk,
-            answer,
-            number: self.number,
-            retired: self.retired,
-            engine,
-        }
+        Sm4Cipher { engine, ..self }
     }
 
     // One block, either way, to the front of `out`.
+    #[tactic(auto, unfolding(crate::specs::Calls::block_call))]
     pub fn call(self, direction: Direction, block_in: &[u8], out: &mut [u8]) -> Answer
         ensures { outcome result out.new ≡ block_call direction self block_in.now out.old }
     {
-        let stands = self.answer;
-        let key = number_in(stands, self.number);
-        let checked = checks::block(stands, self.retired, direction, block_in.len(), out.len());
-        if let Checked::Refused(refusal) = checked {
-            return answer::refused(key, refusal);
+        Answer {
+            ending: self.ciphered(direction, block_in, out),
+            key: number_in(self.answer, self.number),
         }
-        let rk = self.rk;
-        work::block(self.engine, rk, direction, block_in, out);
-        answer::done(key, 16)
+    }
+
+    fn ciphered(
+        self,
+        direction: Direction,
+        block_in: &[u8],
+        out: &mut [u8],
+    ) -> Result<Done, Refusal>
+        ensures { ended result out.new ≡ block_ended direction self block_in.now out.old }
+    {
+        checks::block(
+            self.answer,
+            self.retired,
+            direction,
+            block_in.len(),
+            out.len(),
+        )?;
+        work::block(self.engine, self.rk, direction, block_in, out);
+        Ok(Done {
+            length: 16,
+            came_round: false,
+        })
     }
 
     // One block, encrypted to the front of `out`.
@@ -229,6 +252,7 @@ impl Sm4CipherMode {
 
     // A message, either way, to the front of `out`: everything that can be told of the record, the mode and the lengths is
     // settled before any work.
+    #[tactic(auto, unfolding(crate::specs::Calls::mode_call))]
     pub fn call(
         self,
         direction: Direction,
@@ -239,29 +263,41 @@ impl Sm4CipherMode {
     ) -> Answer
         ensures { outcome result out.new ≡ mode_call direction self aad.now «data».now iv.now out.old }
     {
+        Answer {
+            ending: self.worked(direction, aad, data, iv, out),
+            key: number_in(self.cipher.answer, self.cipher.number),
+        }
+    }
+
+    fn worked(
+        self,
+        direction: Direction,
+        aad: &[u8],
+        data: &[u8],
+        iv: &[u8],
+        out: &mut [u8],
+    ) -> Result<Done, Refusal>
+        ensures { ended result out.new ≡ mode_ended direction self aad.now «data».now iv.now out.old }
+    {
         let cipher = self.cipher;
-        let stands = cipher.answer;
-        let key = number_in(stands, cipher.number);
-        let mode = self.mode;
         let lengths = Lengths {
             iv: iv.len(),
             label: aad.len(),
             data: data.len(),
             room: out.len(),
         };
-        let checked = checks::message(stands, cipher.retired, direction, mode, lengths);
-        if let Checked::Refused(refusal) = checked {
-            return answer::refused(key, refusal);
-        }
+        checks::message(cipher.answer, cipher.retired, direction, self.mode, lengths)?;
+        // A variable: with the field right in the literal the borrow checker does not cover this function.
         let rk = cipher.rk;
-        let engine = cipher.engine;
-        let worked = work::message_by(engine, rk, direction, mode, aad, data, iv, out);
-        let ending = worked.ending;
-        Answer {
-            ending,
-            came_round: worked.came_round,
-            key,
-        }
+        let message = Message {
+            engine: engine_for(cipher.engine, self.mode, direction),
+            rk,
+            direction,
+            aad,
+            data,
+            iv,
+        };
+        message.by_mode(self.mode, out)
     }
 
     // Encrypts `data` to the front of `out`, under the label `aad` in Gcm. The other modes do not look at `aad`.

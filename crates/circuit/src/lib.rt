@@ -8,7 +8,7 @@ ghost use Rattle.circuit.specs.Sbox.{SboxLanes};
 pub fn sbox(x: [u64; 8]) -> [u64; 8]
     ensures { SboxLanes x result }
 {
-    let ones: u64 = 0xffff_ffff_ffff_ffff;
+    let ones = u64::MAX;
     let x0 = x[7];
     let x1 = x[6];
     let x2 = x[5];

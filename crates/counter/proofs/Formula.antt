@@ -2,8 +2,13 @@
 use Rattle.block.proofs.Base.{◌*◌, ◌+◌, ◌-◌, ◌<◌, ◌^◌, ◌≤◌, ℕ, ◌∙◌, ◌≡◌, sym, false, List, arith, le-leb, ne_eqb, eqb, leb, ltb}
 use Rattle.block.specs.Wide.{whole}
 use Rattle.block.specs.BigEndian.{number_of}
-use Rattle.counter.specs.CameRound.{ctr_came_round, gcm_came_round}
+use Rattle.std.specs.Int.{div_ceil}
+use Rattle.counter.specs.CameRound.{blocks_of, ctr_came_round, gcm_came_round}
 use Rattle.counter.proofs.Round.{left_tells, high_full, high-short}
+
+-- the blocks as the library rounds them up
+pub rounded_up : (n : ℕ) → div_ceil n 16 ≡ blocks_of n
+rounded_up n = omega arith
 
 -- no block, and no step
 pub ctr-none : (iv : List ℕ) (b : ℕ) → b ≡ 0 → false ≡ ctr_came_round iv b

@@ -9,8 +9,9 @@ ghost use Rattle.block.specs.Words.{unwords};
 ghost use Rattle.counter.specs.Counter.{ctr_jump, ctr_next, ctr_passes, gcm_jump, gcm_next, gcm_passes};
 ghost use Rattle.counter.specs.CameRound.{blocks_of, ctr_came_round, gcm_came_round};
 
-// The next counter, and whether the step to it passed from all ones to zero.
-#[derive(Clone, Copy)]
+// The next counter, and whether the step to it passed from all ones to zero. As with `overflowing_add`, a counter is there either way, so
+// this is no `Option`.
+#[derive(Clone, Copy, PartialEq, Eq, Debug)]
 pub struct Next {
     pub counter: [u32; 4],
     pub came_round: bool,
@@ -20,14 +21,13 @@ pub struct Next {
 fn u128_add(n: block::U128, k: u64) -> block::U128
     ensures { value result ≡ (value n + k) % 2 ^ 128 }
 {
-    let low = std::num::wrapping_add_u64(n.low, k);
-    if low < k {
-        return block::U128 {
-            high: std::num::wrapping_add_u64(n.high, 1),
-            low,
-        };
-    }
-    block::U128 { high: n.high, low }
+    let (low, carried) = n.low.overflowing_add(k);
+    let high = if carried {
+        n.high.wrapping_add(1)
+    } else {
+        n.high
+    };
+    block::U128 { high, low }
 }
 
 // Ctr's next counter: the sixteen bytes count as one number. It is zero exactly where it came round.
@@ -54,7 +54,7 @@ pub fn gcm_block_add_one(a: [u32; 4]) -> Next
     ensures counter_value { unwords result.counter ≡ gcm_next (unwords a) }
     ensures came_round_value { result.came_round ≡ gcm_passes (unwords a) }
 {
-    let low = std::num::wrapping_add_u32(a[3], 1);
+    let low = a[3].wrapping_add(1);
     Next {
         counter: [a[0], a[1], a[2], low],
         came_round: low == 0,
@@ -65,21 +65,14 @@ pub fn gcm_block_add_one(a: [u32; 4]) -> Next
 pub fn gcm_jump(a: [u32; 4], blocks: u32) -> [u32; 4]
     ensures { unwords result ≡ gcm_jump (unwords a) blocks }
 {
-    [a[0], a[1], a[2], std::num::wrapping_add_u32(a[3], blocks)]
-}
-
-// The blocks of n bytes, a rest counted as one.
-fn blocks(n: usize) -> usize
-    ensures { result ≡ blocks_of n }
-{
-    if n % 16 == 0 { n / 16 } else { n / 16 + 1 }
+    [a[0], a[1], a[2], a[3].wrapping_add(blocks)]
 }
 
 // Whether Ctr's counter came round over a message of n bytes: the step after its last block does not count.
 pub fn ctr_came_round(iv: [u32; 4], n: usize) -> bool
     ensures { result ≡ ctr_came_round (unwords iv) (blocks_of n) }
 {
-    let b = blocks(n);
+    let b = n.div_ceil(16);
     if b == 0 {
         return false;
     }
@@ -91,5 +84,5 @@ pub fn ctr_came_round(iv: [u32; 4], n: usize) -> bool
 pub fn gcm_came_round(low: u32, n: usize) -> bool
     ensures { result ≡ gcm_came_round low (blocks_of n) }
 {
-    blocks(n) > (u32::MAX - low) as usize
+    n.div_ceil(16) > (u32::MAX - low) as usize
 }

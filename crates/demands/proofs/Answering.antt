@@ -4,7 +4,7 @@ use Rattle.demands.specs.Names as N
 use N.{not, Bool, ◌&&◌, cond, false, true, List, [], ◌∷◌, map, ◌≢◌, ◌⊎◌, inl, inr, ◌∙◌, ◌≡◌, ap, refl, ◌<◌, ◌≤◌, ℕ, arith, eqb, drop}
 use N.{get_or, length, length-append, length-drop, drop_at, eqb-false, Head, Outcome, finished, refusal, refuse_as, over, refusal_head}
 use N.{checked, Refusal, EmptyCbc, Ended, ErrorBlockSize, ErrorDataLen, RefusalLastU8, RefusalPadding, RefusalTag, NoRoom, Retired}
-use N.{ShortGcm, TooLong, WrongBlock, WrongIv, WrongNumber, Checked, Passed, Refused, Stepped, begun, goes_on, under, Verdict}
+use N.{ShortGcm, TooLong, WrongBlock, WrongIv, WrongNumber, Checked, Ok, Err, Stepped, begun, goes_on, under, Verdict}
 use N.{checked_verdict, none_with, on_key}
 use Rattle.block.proofs.Same.{by_test}
 use Rattle.cipher_mode.proofs.Refusals.{refuses}
@@ -57,24 +57,24 @@ mark_back false = refl
 
 -- the report behind a check, h being that of what comes next
 unfoldable pub head_behind : Checked → Head → Head
-head_behind Passed h = h
-head_behind (Refused r) h = refusal_head r
+head_behind (Ok _) h = h
+head_behind (Err r) h = refusal_head r
 
 -- of a call, of a piece or an end, and of a start; and behind a refusal by number
 pub checked-head : (k : Checked) (o : List ℕ) (next : Outcome) → (checked k o next).head ≡ head_behind k next.head
 unfolding head_behind
-checked-head Passed o next = refl
-checked-head (Refused r) o next = refl
+checked-head (Ok _) o next = refl
+checked-head (Err r) o next = refl
 
 pub step-head : (S : Type 0) (k : Checked) (o : List ℕ) (s : S) (next : Stepped S) → (goes_on S k o s next).head ≡ head_behind k next.head
 unfolding head_behind
-step-head S Passed o s next = refl
-step-head S (Refused r) o s next = refl
+step-head S (Ok _) o s next = refl
+step-head S (Err r) o s next = refl
 
 pub start-head : (S : Type 0) (k : Checked) (shut : ℕ → S) (s : S) → (begun S k shut s).head ≡ head_behind k (finished 0)
 unfolding head_behind
-start-head S Passed shut s = refl
-start-head S (Refused r) shut s = refl
+start-head S (Ok _) shut s = refl
+start-head S (Err r) shut s = refl
 
 pub front-head : (t : Bool) (k : ℕ) (o : List ℕ) (next : Outcome) → (refuse_as t k o next).head ≡ cond t (refusal k) next.head
 front-head true k o next = refl
@@ -86,8 +86,8 @@ pub verdict-head : (bad : Bool) (n : ℕ) (k : Checked) (v : Verdict) → v.head
     ≡ cond bad (refusal 16) (under n (head_behind k (finished 0)))
 unfolding head_behind
 verdict-head true n k v e = refl
-verdict-head false n Passed v e = ap (under n) e
-verdict-head false n (Refused r) v e = refl
+verdict-head false n (Ok _) v e = ap (under n) e
+verdict-head false n (Err r) v e = refl
 
 pub ruleset heads = (checked-head, step-head, start-head, front-head, verdict-head)
 
@@ -136,10 +136,10 @@ module _ (o : List ℕ) (n : ℕ) where
       (λ _. refl, λ z. absurd (z refl), λ _. f, h, λ _. past, rw (length-append, length-drop) (omega arith))
 
   -- a check in front, or what comes next, which may count on it that the check passed; and a refusal by number k
-  pub checks_fair : (k : Checked) (next : Outcome) → (k ≡ Passed → Fair next.head next.bytes)
+  pub checks_fair : (k : Checked) (next : Outcome) → (k ≡ Ok tt → Fair next.head next.bytes)
       → Fair (checked k o next).head (checked k o next).bytes
-  checks_fair Passed next f = f refl
-  checks_fair (Refused r) next _ = refusal_fair r
+  checks_fair (Ok _) next f = f refl
+  checks_fair (Err r) next _ = refusal_fair r
 
   pub front_fair : (t : Bool) (k : ℕ) (next : Outcome) → 0 < k → (t ≡ false → Fair next.head next.bytes)
       → Fair (refuse_as t k o next).head (refuse_as t k o next).bytes

@@ -5,7 +5,7 @@ use N.{Bool, cond, false, true, List, [], ◌∷◌, ◌∙◌, ◌≡◌, ap, r
 use N.{length-append, drop_at, length-take-le, take_at, eq-eqb, eqb-false, eqb-true, lt-leb, AreBytes, bytes_of, number_of, same, xors}
 use N.{blocks_of, ctr_came_round, gcm_came_round, gcm_next, last_four, Head, finished, refusal, telling, under, ctr_walk_says}
 use N.{gcm_walk_says, J0, first_counter, hash_key, sealed, text_of, text_part, block_call, mode_call, mode_result, limit_of, mode_of}
-use N.{CipherMode, Ctr, Gcm, Direction, Decrypt, Encrypt, Checked, Passed, Refused, ctr_end, ctr_piece, ctr_start, opens_end, opens_piece}
+use N.{CipherMode, Ctr, Gcm, Direction, Decrypt, Encrypt, Checked, Ok, Err, ctr_end, ctr_piece, ctr_start, opens_end, opens_piece}
 use N.{opens_start, seal_end, seal_piece, seal_start, hash_end, CtrState, Opens, Seal, bad_list, which, plan_call, range_call, Plan}
 use N.{host_block_call, host_mode_call, host_ctr_start, host_opens_start, accepts, not, host_seal_start, cipher_in, host_ctr_by_plan}
 use N.{host_ctr_range, host_which, LuossavinKey, ⊎_elim, data_check, wrong_iv}
@@ -64,17 +64,17 @@ module _ {b : Bool} where
   either-says true p q = p
   either-says false p q = q
 
-  behind-says : (k : Checked) {h : Head} → (k ≡ Passed → Says b h) → Says b (head_behind k h)
+  behind-says : (k : Checked) {h : Head} → (k ≡ Ok tt → Says b h) → Says b (head_behind k h)
   unfolding head_behind
-  behind-says Passed s = s refl
-  behind-says (Refused r) s = record { done = λ e. absurd ((refuses r).not-zero e); refused = λ _. (refuses r).no_round }
+  behind-says (Ok _) s = s refl
+  behind-says (Err r) s = record { done = λ e. absurd ((refuses r).not-zero e); refused = λ _. (refuses r).no_round }
 
   key-says : {n : ℕ} {h : Head} → Says b h → Says b (under n h)
   key-says s = record { done = s.done; refused = s.refused }
 
 -- what the modes give, either way
 result_says : (m : CipherMode) (dir : Direction) (rk aad d iv o : List ℕ) → wrong_iv m (length iv) ≡ false
-    → data_check dir m (length d) ≡ Passed
+    → data_check dir m (length d) ≡ Ok tt
     → Says (round_of m dir rk iv (length d)) (mode_result m dir rk aad d iv o).head
 result_says m Encrypt rk aad d iv o n e = rw (encrypts m rk aad d iv o) done-says
 result_says m Decrypt rk aad d iv o n e =

@@ -4,7 +4,7 @@ use Rattle.demands.specs.Names as N
 use N.{Bool, cond, false, true, List, [], ◌∷◌, ◌≢◌, ◌⊎◌, ◌∙◌, ◌≡◌, ap, refl, sym, ◌-◌, ◌<◌, ◌^◌, ◌≤◌, suc, zero, ℕ, arith, ltb, drop}
 use N.{get_or, length, length-take, take, le-ltb, ltb-false, Head, Outcome, finished, keyed, refusal, under, gcm_open, mode_call, and_then}
 use N.{checked, key_check, refuse, wrong_iv, data_check, key_and_iv, message_check, room_check, key_number, limit, sealed_limit, mode_of}
-use N.{Gcm, Decrypt, KeyAnswer, NoKey, Key, NoNumber, Sm4Cipher, ShortGcm, TooLong, WrongIv, Checked, Passed, Refused, gcm_starting}
+use N.{Gcm, Decrypt, KeyAnswer, NoKey, Key, NoNumber, Sm4Cipher, ShortGcm, TooLong, WrongIv, Checked, Ok, Err, gcm_starting}
 use N.{any_too_long, bad_list, label_at, Verdict, checked_verdict, opens_with, search_check, which, label_of, checked_head}
 use N.{host_edition_opens, opens_head, host_mode_call, cipher_in, host_key_engine, host_which, LuossavinKey}
 use Rattle.block.proofs.Same.{by_test}
@@ -24,13 +24,13 @@ use Rattle.demands.proofs.InPieces.{single-done, gcm-begins}
 -- by the checks a refusal is told alike, and what comes next if that is
 by_checks : (k : Checked) (n : ℕ) (o : List ℕ) (h : Head) (x : Outcome) → WithoutText h x
     → WithoutText (under n (checked_head k h)) (keyed n (checked k o x))
-by_checks Passed n o h x w = record { number = w.number; missing = w.missing; key = refl; size = w.size; came_round = w.came_round }
-by_checks (Refused r) n o h x w =
+by_checks (Ok _) n o h x w = record { number = w.number; missing = w.missing; key = refl; size = w.size; came_round = w.came_round }
+by_checks (Err r) n o h x w =
     record { number = refl; missing = refl; key = refl; size = (refuses r).no_size; came_round = (refuses r).no_round }
 
-then_passed : (k : Checked) → and_then k Passed ≡ k
-then_passed Passed = refl
-then_passed (Refused r) = refl
+then_passed : (k : Checked) → and_then k (Ok tt) ≡ k
+then_passed (Ok _) = refl
+then_passed (Err r) = refl
 
 -- The question answers what the single call answers in Gcm, given room: 0 exactly where that is 0, and otherwise its refusal.
 pub edition-opens : (k : LuossavinKey) → AnswersAsOpening (host_edition_opens k) (host_mode_call Decrypt 4 k)
@@ -48,7 +48,7 @@ edition-opens k job edition file iv o room =
 
 no_six : (a : KeyAnswer) (wrong long short t : Bool) (n : ℕ)
     → (checked_head
-    (and_then (and_then (key_check a) (refuse wrong WrongIv Passed)) (refuse long TooLong (refuse short (ShortGcm n) Passed)))
+    (and_then (and_then (key_check a) (refuse wrong WrongIv (Ok tt))) (refuse long TooLong (refuse short (ShortGcm n) (Ok tt))))
     (cond t (finished 0) (refusal 4))).number ≡ 6
     → ⊥
 no_six NoKey wrong long short t n e = omega arith
@@ -160,8 +160,8 @@ the_edition k file iv labels lengths o room moves e j₁ j₂ e₁ e₂ hj₁ hj
 -- a search reports nothing but that it is done, and a refusal no candidate
 searched : (k : Checked) (v : Verdict) → v.head ≡ finished 0
     → ((checked_verdict k v).head.size ≡ 0) × ((checked_verdict k v).head.number ≢ 0 → (checked_verdict k v).found ≡ false)
-searched Passed v e = rw e (refl, λ n. absurd (n refl))
-searched (Refused r) v e = ((refuses r).no_size, λ _. refl)
+searched (Ok _) v e = rw e (refl, λ n. absurd (n refl))
+searched (Err r) v e = ((refuses r).no_size, λ _. refl)
 
 -- Demand 1 of the exported question: length 0, the key's number, a part inside the lent buffer where one is found, and none otherwise.
 pub which-answers : (k : LuossavinKey) (file iv labels lengths : List ℕ)

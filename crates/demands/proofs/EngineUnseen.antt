@@ -2,10 +2,10 @@
 -- differs, whether the call was refused or not.
 use Rattle.demands.specs.Names as N
 use N.{cond, List, [], ◌∷◌, map, ◌∙◌, ◌≡◌, ap, refl, sym, ◌+◌, suc, zero, ℕ, eqb, drop, length, take, block_call, mode_call, key_and_iv}
-use N.{key_number, with_engine, Ctr as CtrMode, Encrypt, Sm4Cipher, Checked, Passed, Refused, Stepped, begun, goes_on, step_on, ctr_end}
+use N.{key_number, with_engine, Ctr as CtrMode, Encrypt, Sm4Cipher, Checked, Ok, Err, Stepped, begun, goes_on, step_on, ctr_end}
 use N.{ctr_piece, ctr_start, opens_start, seal_end, seal_piece, seal_start, gcm_starting, running, writing, ctr_after, seal_after}
 use N.{CtrState as Ctr, Seal, which, plan_call, range_call, front_journal as front, size_at_journal as size_at, key_at, any_retired, bad_keys}
-use N.{number_twice, place_of, call_into, replay, replay_one, replay_up_to, nothing, Report, host_block_call, host_mode_call, direction_of}
+use N.{number_twice, place_of, call_into, replay, replay_one, replay_up_to, nothing, Replayed, journal_then, done_journal, Report, host_block_call, host_mode_call, direction_of}
 use N.{host_ctr_start, host_opens_start, host_seal_start, host_replay, keys_of, cipher_in, host_key_engine, host_ctr_by_plan}
 use N.{host_ctr_range, host_which, LuossavinKeys, LuossavinKey}
 use Rattle.demands.specs.EngineUnseen.{unmarked, unmarked_ctr, unmarked_seal, seen, CtrAlike, SealAlike, unmarked_host, ReportedAlike}
@@ -20,14 +20,14 @@ by_mark without r s alike f e = sym (e r) ∙ ap f alike ∙ e s
 -- a call that leaves a state, by what its check says
 starts_alike : {S : Type 0} (without : S → S) (n : ℕ) (k : Checked) (shut : ℕ → S) (s t : S) → without s ≡ without t
     → seen S without (step_on S n (begun S k shut s)) ≡ seen S without (step_on S n (begun S k shut t))
-starts_alike without n Passed shut s t e = rw e
-starts_alike without n (Refused r) shut s t e = refl
+starts_alike without n (Ok _) shut s t e = rw e
+starts_alike without n (Err r) shut s t e = refl
 
 goes_alike : {S : Type 0} (without : S → S) (n : ℕ) (k : Checked) (o : List ℕ) (s t : S) (x y : Stepped S) → without s ≡ without t
     → seen S without x ≡ seen S without y
     → seen S without (step_on S n (goes_on S k o s x)) ≡ seen S without (step_on S n (goes_on S k o t y))
-goes_alike {S} without n Passed o s t x y e f = ap (step_on S n) f
-goes_alike without n (Refused r) o s t x y e f = rw e
+goes_alike {S} without n (Ok _) o s t x y e f = ap (step_on S n) f
+goes_alike without n (Err r) o s t x y e f = rw e
 
 -- Records that are alike but for the engine.
 pub engine_unseen : (k l : LuossavinKey) → unmarked_host k ≡ unmarked_host l → ReportedAlike k l
@@ -112,12 +112,18 @@ one-unmarked ks b place r =
     let n = (front b).key in
     rw (place-unmarked n ks, length-map ks unmarked, get_or-map unmarked ks (place_of n ks) (key_at [] 0))
 
+then_alike : (x : Replayed) (f g : Report → Replayed) → ((r : Report) → f r ≡ g r) → journal_then x f ≡ journal_then x g
+then_alike (Ok r) f g e = e r
+then_alike (Err x) f g e = refl
+
 up_to_unmarked : (n : ℕ) (ks : List Sm4Cipher) (b : List ℕ) (place : ℕ) (r : Report)
     → replay_up_to n (map unmarked ks) b place r ≡ replay_up_to n ks b place r
 unfolding replay_up_to
 up_to_unmarked zero ks b place r = refl
 up_to_unmarked (suc n) ks b place r =
-    rw (one-unmarked ks b place r, up_to_unmarked n ks (drop (size_at b) b) (place + size_at b) (replay_one ks b place r).report)
+    rw (one-unmarked ks b place r)
+    (ap {B = Replayed} (λ (x : Replayed). cond (eqb (length b) 0) (done_journal r) x)
+    (then_alike (replay_one ks b place r) _ _ (up_to_unmarked n ks (drop (size_at b) b) (place + size_at b))))
 
 unmarked-replay : (k : LuossavinKeys) (journal : List ℕ) → host_replay (unmarked_keys k) journal ≡ host_replay k journal
 unfolding host_replay keys_of cipher_in host_key_engine with_engine replay bad_keys

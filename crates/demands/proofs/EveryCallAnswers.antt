@@ -4,7 +4,7 @@ use Rattle.demands.specs.Names as N
 use N.{suc, zero, NoKey, NoNumber, cond, false, not, true, List, ◌≢◌, ◌⊎◌, ⊎_elim, ◌∙◌, ◌≡◌, refl, ◌<◌, ◌≤◌, ℕ, arith, eqb, ltb, length}
 use N.{eq-eqb, le-ltb, lt-ltb, ne_eqb, done, refusal, refusal_head, block_call, block_of, lengths_of, mode_call, mode_result, block_check}
 use N.{data_check, key_and_iv, key_check, message_check, wrong_iv, key_number, new_cipher, new_cipher_mode, wrong_number, mode_of, room_of}
-use N.{CipherMode, Cbc, Cfb, Ctr, Gcm, Ofb, Direction, Decrypt, Encrypt, Refusal, ErrorBlockSize, WrongNumber, Passed, Refused, ctr_start}
+use N.{CipherMode, Cbc, Cfb, Ctr, Gcm, Ofb, Direction, Decrypt, Encrypt, Refusal, ErrorBlockSize, WrongNumber, Ok, Err, ctr_start}
 use N.{opens_start, seal_start, gcm_starting, search_check, which, plan_call, range_call, range_check, reach_check, call_into}
 use N.{host_block_call, host_mode_call, host_ctr_start, host_opens_start, host_seal_start, cipher_in, host_key_new, key_answer_of}
 use N.{host_ctr_by_plan, host_ctr_range, host_which, LuossavinKey}
@@ -62,7 +62,7 @@ block-answers dir k b o =
 
 -- what the modes give, either way
 result_fair : (m : CipherMode) (dir : Direction) (rk aad d iv o : List ℕ) → wrong_iv m (length iv) ≡ false
-    → data_check dir m (length d) ≡ Passed → room_of m dir (length d) ≤ length o
+    → data_check dir m (length d) ≡ Ok tt → room_of m dir (length d) ≤ length o
     → let x = mode_result m dir rk aad d iv o in Fair o (length_of m dir rk iv d) x.head x.bytes
 result_fair m Encrypt rk aad d iv o n e r =
     let size = length_encrypted m rk aad d iv in
@@ -101,7 +101,7 @@ message-answers dir mode k label d iv o =
 -- Demand 1, of keys: a key that was refused is no usable key.
 
 -- by what the check of the key says
-module _ (k : LuossavinKey) (n : ℕ) (r : Refusal) (check : key_check (cipher_in k).answer ≡ Refused r) (head : refusal_head r ≡ refusal n)
+module _ (k : LuossavinKey) (n : ℕ) (r : Refusal) (check : key_check (cipher_in k).answer ≡ Err r) (head : refusal_head r ≡ refusal n)
     (none : key_number (cipher_in k) ≡ 0) where
   turned_away : NoUsableKey n k
   unfolding host_block_call block_call block_check host_mode_call mode_call message_check key_and_iv host_ctr_start ctr_start

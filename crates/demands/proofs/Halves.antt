@@ -3,7 +3,7 @@
 use Rattle.demands.specs.Names as N
 use N.{false, List, [], ◌++◌, ◌∷◌, append_assoc, ⊎_elim, ◌∙◌, ◌≡◌, refl, sym, ◌*◌, ◌/◌, ℕ, div-add-mod', arith, length, length-append}
 use N.{replicate, eq-eqb, bytes_of, number_of, Element, encrypt_block, auth_blocks, blocks, ghash, length_block, joined, J0, first_counter}
-use N.{hash_key, sealed, tag_of, text_of, retired_check, wrong_iv, mode_of, Gcm, Encrypt, Key, Passed, value, hash_of, host_hash_blocks}
+use N.{hash_key, sealed, tag_of, text_of, retired_check, wrong_iv, mode_of, Gcm, Encrypt, Key, Ok, value, hash_of, host_hash_blocks}
 use N.{host_hash_join, host_block_call, host_mode_call, cipher_in, LuossavinKey}
 use Rattle.block.proofs.Convert.{length-bytes_of}
 use Rattle.field.proofs.Bounded.{whole-lt}
@@ -54,7 +54,7 @@ module _ (h : ℕ) (element : Element h) where
       (iv_twelve_or_sixteen (length iv) e)
 
 -- a usable and unretired key encrypts a block
-module _ (k : LuossavinKey) (usable : (cipher_in k).answer ≡ Key) (may : retired_check Encrypt (cipher_in k).retired ≡ Passed) where
+module _ (k : LuossavinKey) (usable : (cipher_in k).answer ≡ Key) (may : retired_check Encrypt (cipher_in k).retired ≡ Ok tt) where
   enciphers : (b : List ℕ) → length b ≡ 16 → enciphered k b ≡ encrypt_block (cipher_in k).rk b
   unfolding host_block_call
   enciphers b n =

@@ -6,7 +6,7 @@ use N.{drop_of_length-le, length, length-append, length-drop, drop-append-le, ta
 use N.{Outcome, done, finished, keyed, reporting, telling, under, over, chain, stream_mode, CtrKind, J0, hash_key, opens_under, sealed}
 use N.{text_of, gcm_open, gcm_round, lengths_of, mode_result, mode_call, and_then, refuse, data_check, key_and_iv, message_check}
 use N.{room_check, key_number, limit, room_of, mode_of, Ctr as CtrMode, Gcm, Direction, Decrypt, Encrypt, Sm4Cipher, Sm4CipherMode, TooLong}
-use N.{Checked, Passed, Refused, Stepped, begun, goes_on, step_on, ctr_end, ctr_piece, ctr_start, opens_end, opens_piece, opens_start}
+use N.{Checked, Ok, Err, Stepped, begun, goes_on, step_on, ctr_end, ctr_piece, ctr_start, opens_end, opens_piece, opens_start}
 use N.{seal_end, seal_piece, seal_start, gcm_starting, ctr_after, opens_after, seal_after, CtrState as Ctr, Opens, Seal, host_mode_call}
 use N.{direction_of, host_ctr_start, host_opens_start, host_seal_start, cipher_in, LuossavinKey}
 use Rattle.block.proofs.Same.{by_test}
@@ -101,9 +101,9 @@ module _ {S : Type 0} {i : ℕ} {text : List ℕ → List ℕ} {after : List ℕ
           ))
 
 -- a piece or an end that answered 0 has passed
-passed_on : (S : Type 0) (k : Checked) (o : List ℕ) (s : S) (next : Stepped S) → (goes_on S k o s next).head.number ≡ 0 → k ≡ Passed
-passed_on S Passed o s next e = refl
-passed_on S (Refused r) o s next e = absurd ((refuses r).not-zero e)
+passed_on : (S : Type 0) (k : Checked) (o : List ℕ) (s : S) (next : Stepped S) → (goes_on S k o s next).head.number ≡ 0 → k ≡ Ok tt
+passed_on S (Ok _) o s next e = refl
+passed_on S (Err r) o s next e = absurd ((refuses r).not-zero e)
 
 ctr_writes : (i mark : ℕ) (rk iv : List ℕ) → Writes i (chain (stream_mode CtrKind rk) iv) (ctr_after i mark rk iv) (onto Ctr ctr_piece)
 unfolding ctr_piece ctr_after
@@ -135,7 +135,7 @@ seal_writes i mark rk label iv hl =
     }
 
 -- data in Ctr has a limit and no shape
-pub ctr-data : (dir : Direction) (n : ℕ) → data_check dir CtrMode n ≡ refuse (ltb limit n) TooLong Passed
+pub ctr-data : (dir : Direction) (n : ℕ) → data_check dir CtrMode n ≡ refuse (ltb limit n) TooLong (Ok tt)
 unfolding data_check
 ctr-data Encrypt n = refl
 ctr-data Decrypt n = refl
@@ -147,8 +147,8 @@ pub record Begins (dir : Direction) (m : Sm4CipherMode) (label iv : List ℕ) (f
       ≡ and_then first (and_then (data_check dir m.mode (length d)) (room_check dir m.mode (length d) (length o)))
 
 -- so where it passes, and data and room do, the single call is done
-pub single-done : {dir : Direction} {m : Sm4CipherMode} {label iv : List ℕ} {first : Checked} → Begins dir m label iv first → first ≡ Passed
-    → (d o : List ℕ) → data_check dir m.mode (length d) ≡ Passed → room_of m.mode dir (length d) ≤ length o
+pub single-done : {dir : Direction} {m : Sm4CipherMode} {label iv : List ℕ} {first : Checked} → Begins dir m label iv first → first ≡ Ok tt
+    → (d o : List ℕ) → data_check dir m.mode (length d) ≡ Ok tt → room_of m.mode dir (length d) ≤ length o
     → mode_call dir m label d iv o ≡ keyed (key_number m.cipher) (mode_result m.mode dir m.cipher.rk label d iv o)
 unfolding mode_call room_check
 single-done {dir} {m} f passed d o content room =
@@ -157,16 +157,16 @@ single-done {dir} {m} f passed d o content room =
 -- and a start is checked as it is
 checked-alike : (S : Type 0) (first : Checked) (shut : ℕ → S) (s : S) (least : List ℕ) (room : ℕ) (answers : List ℕ)
     {dir : Direction} {m : Sm4CipherMode} {label iv : List ℕ} → Begins dir m label iv first
-    → data_check dir m.mode (length least) ≡ Passed → room_of m.mode dir (length least) ≤ room
+    → data_check dir m.mode (length least) ≡ Ok tt → room_of m.mode dir (length least) ≤ room
     → ((o : List ℕ) → one_of (mode_result m.mode dir m.cipher.rk label least iv o).head.number answers ≡ true)
     → CheckedAlike S least room answers (step_on S (key_number m.cipher) (begun S first shut s)) (λ d o. mode_call dir m label d iv o)
 unfolding mode_call
-checked-alike S Passed shut s least room answers f content h answer =
+checked-alike S (Ok _) shut s least room answers f content h answer =
     record {
       refused = λ n. absurd (n refl);
       begun = λ e o r. ap (λ (x : Outcome). one_of x.head.number answers) (single-done f refl least o content (omega arith)) ∙ answer o;
     }
-checked-alike S (Refused r) shut s least room answers f content h answer =
+checked-alike S (Err r) shut s least room answers f content h answer =
     record { refused = λ n d o. rw (f.check d o); begun = λ e. absurd ((refuses r).not-zero e) }
 
 -- in Ctr it is that of key and IV
@@ -176,8 +176,8 @@ unfolding message_check
 ctr-begins dir c label iv = record { check = λ d o. refl }
 
 then_then : (a b c : Checked) → and_then a (and_then b c) ≡ and_then (and_then a b) c
-then_then Passed b c = refl
-then_then (Refused r) b c = refl
+then_then (Ok _) b c = refl
+then_then (Err r) b c = refl
 
 -- and in Gcm that of the label too
 pub gcm-begins : (dir : Direction) (c : Sm4Cipher) (label iv : List ℕ)
@@ -194,7 +194,7 @@ ctr_in_pieces decrypt k ps label iv o r e =
     let dir = direction_of decrypt in
     let m : Sm4CipherMode = record { cipher = c; mode = CtrMode } in
     let p = through dir m label (whole ps) iv o e in
-    let fits : length (whole ps) ≤ limit = ltb-false limit _ (let_through _ TooLong Passed (rw ctr-data at p.content)).fails in
+    let fits : length (whole ps) ≤ limit = ltb-false limit _ (let_through _ TooLong (Ok tt) (rw ctr-data at p.content)).fails in
     let (all, bytes, _, gives, told) =
     alike (ctr_writes (key_number c) c.engine c.rk iv) ps fits r ctr_end (ctr_came_round iv (blocks_of (length (whole ps)))) _ [] [] o
     (ctr_started dir c iv (rw (p.key, p.iv-size, p.may))) (ctr-ended (key_number c) c.engine c.rk iv (whole ps) fits) refl
@@ -233,7 +233,7 @@ opens_goes i rk label iv hl =
 
 -- a start that answered 0 has passed
 pub opens_starts : (c : Sm4Cipher) (label iv : List ℕ) → (opens_start c label iv).head.number ≡ 0
-    → gcm_starting c.answer c.retired Decrypt (length iv) (length label) ≡ Passed
+    → gcm_starting c.answer c.retired Decrypt (length iv) (length label) ≡ Ok tt
 unfolding opens_start
 opens_starts c label iv e = passed_start Opens _ _ _ e
 
@@ -264,7 +264,7 @@ unfolding host_ctr_start ctr_start host_mode_call mode_of
 ctr-of-pieces decrypt k ps label iv o room e z _ =
     let c = cipher_in k in
     let dir = direction_of decrypt in
-    let passed : key_and_iv c.answer c.retired dir CtrMode (length iv) ≡ Passed = passed_start Ctr _ _ _ e in
+    let passed : key_and_iv c.answer c.retired dir CtrMode (length iv) ≡ Ok tt = passed_start Ctr _ _ _ e in
     let (within, roomy) =
     all_fit (ctr_writes (key_number c) c.engine c.rk iv).pieces [] ps (omega arith) (rw passed at z) in
     let zero = ap (λ (x : Outcome). x.head.number)

@@ -2,7 +2,8 @@
 use Rattle.demands.specs.Names as N
 use N.{arith, ◌∙◌, false, List, [], ◌∷◌, ◌≢◌, ◌≡◌, refl, ℕ, lit<, number_of, Replayable, counted_all, marked_journal as marked, past_limit}
 use N.{starts_part, starts_record_journal as starts_record, stored_journal as stored, any_retired, bad_keys, keys_in, number_twice, place_of}
-use N.{call_into, differs_from, done_journal as done, number_of_end, replay, counted, nothing, BadRecord, Replayed}
+use N.{call_into, differs_from, done_journal as done, ended_journal as ended, number_of_end, refused_journal as refused, replay, report_of, counted, nothing}
+use N.{BadRecord, Replayed}
 use Rattle.journal.proofs.Ending.{replayed_whole}
 use Rattle.journal.proofs.Replaying.{from_start, from_refused}
 use Rattle.demands.proofs.Imposters.{apart}
@@ -27,13 +28,13 @@ wrong_whole = replayed_whole one_key one-key_good (unknown_done ∷ []) (unknown
 pub stops_at_difference_contradicts : stops_at_difference one_key one_wrong ≢ replay one_key one_wrong
 unfolding counted_all counted call_into differs_from stored
 stops_at_difference_contradicts =
-    apart Replayed (λ x. x.report.records) _ _ 0 1 (rw wrong_whole (rw (replayed_whole one_key one-key_good [] tt))) (rw wrong_whole) refl
+    apart Replayed (λ x. (report_of x).records) _ _ 0 1 (rw wrong_whole (rw (replayed_whole one_key one-key_good [] tt))) (rw wrong_whole) refl
 
 -- Looking at a stated length first is told by a record that is cut: that is 23, and the imposter says 24.
-cut_refused : replay one_key cut_overlong ≡ record { ended = BadRecord; place = 0; report = nothing }
+cut_refused : replay one_key cut_overlong ≡ refused BadRecord 0 nothing
 unfolding starts_record marked starts_part number_of
 cut_refused = from_start one_key cut_overlong one-key_good ∙ from_refused (keys_in one_key) cut_overlong 0 nothing (lit< tt) BadRecord refl
 
 pub too_long-first_contradicts : too_long_first one_key cut_overlong ≢ replay one_key cut_overlong
 unfolding number_of
-too_long-first_contradicts = apart Replayed (λ x. number_of_end x.ended) _ _ 24 23 (rw one-key_good) (rw cut_refused) refl
+too_long-first_contradicts = apart Replayed (λ x. number_of_end (ended x)) _ _ 24 23 (rw one-key_good) (rw cut_refused) refl

@@ -4,7 +4,7 @@ use N.{Kind, not, inl, inr, ◌⊎◌, ⊎_elim, ◌-◌, ◌<◌, all_padding, 
 use N.{refl, ◌%◌, ◌≤◌, ℕ, arith, length, take, length-take-le, eq-eqb, le-ltb, ne_eqb, AreBytes, done, reporting, chain, stream_mode}
 use N.{CfbDecrypt, CfbEncrypt, CtrKind, OfbKind, cbc_seal, cbc_open, cbc_text, unpadded, J0, hash_key, opens_under, sealed, text_of}
 use N.{text_part, gcm_open, mode_result, data_check, wrong_iv, limit, room_of, sealed_limit, CipherMode, Cbc, Cfb, Ctr, Gcm, Ofb, Decrypt}
-use N.{Encrypt, Passed}
+use N.{Encrypt, Ok}
 use Rattle.block.proofs.Same.{by_test}
 use Rattle.stream.proofs.RoundTrip.{length-stream, stream_back, stream_forth}
 use Rattle.cbc.proofs.RoundTrip.{length-cbc_seal}
@@ -43,18 +43,18 @@ length_encrypted Cbc rk aad d iv = length-cbc_seal rk iv d
 length_encrypted Gcm rk aad d iv = length-sealed rk (hash_key rk) (J0 rk iv) aad d
 
 -- a length that decryption takes
-pub tagged_passes : (n : ℕ) → n ≤ sealed_limit → 16 ≤ n → data_check Decrypt Gcm n ≡ Passed
+pub tagged_passes : (n : ℕ) → n ≤ sealed_limit → 16 ≤ n → data_check Decrypt Gcm n ≡ Ok tt
 unfolding data_check
 tagged_passes n h k = rw (le-ltb sealed_limit n h, le-ltb n 16 k)
 
 -- the message c is in order for decrypting, and decrypts to d
 pub record Decrypts (m : CipherMode) (rk aad c iv d : List ℕ) : Type 0 where
-  pub content : data_check Decrypt m (length c) ≡ Passed
+  pub content : data_check Decrypt m (length c) ≡ Ok tt
   pub opened : (o : List ℕ) → mode_result m Decrypt rk aad c iv o ≡ reporting (round_of m Decrypt rk iv (length c)) (done d o)
 
 module _ (rk aad d iv : List ℕ) (iv-bytes : AreBytes iv) (d-bytes : AreBytes d) where
   -- in every mode
-  pub back : (m : CipherMode) → wrong_iv m (length iv) ≡ false → data_check Encrypt m (length d) ≡ Passed
+  pub back : (m : CipherMode) → wrong_iv m (length iv) ≡ false → data_check Encrypt m (length d) ≡ Ok tt
       → Decrypts m rk aad (encrypted m rk aad d iv) iv d
   unfolding data_check
   back Cfb n e = record { content = rw (length-stream CfbEncrypt rk iv d) e; opened = λ o. rw (stream_back CfbEncrypt rk iv d) }
@@ -96,7 +96,7 @@ module _ (rk aad c iv o : List ℕ) where
   streamed k = chain (stream_mode k rk) iv c
 
   -- decrypting refuses, with the output as it was lent, or gives such a text
-  pub opening : (m : CipherMode) → wrong_iv m (length iv) ≡ false → data_check Decrypt m (length c) ≡ Passed
+  pub opening : (m : CipherMode) → wrong_iv m (length iv) ≡ false → data_check Decrypt m (length c) ≡ Ok tt
       → ((n : ℕ) × (0 < n) × (mode_result m Decrypt rk aad c iv o ≡ refused n o)) ⊎ Encrypts m rk aad c iv o
   unfolding cbc_open unpadded
   opening Cfb n e =
@@ -140,9 +140,9 @@ module _ (rk aad c iv o : List ℕ) where
   within Cbc _ l = l refl
   within Gcm h _ = omega arith
 
-  pub forth : (m : CipherMode) → wrong_iv m (length iv) ≡ false → data_check Decrypt m (length c) ≡ Passed
+  pub forth : (m : CipherMode) → wrong_iv m (length iv) ≡ false → data_check Decrypt m (length c) ≡ Ok tt
       → (mode_result m Decrypt rk aad c iv o).head.number ≡ 0 → (m ≡ Cbc → (mode_result m Decrypt rk aad c iv o).head.size ≤ limit)
-      → (t : Encrypts m rk aad c iv o) × (data_check Encrypt m (length t.text) ≡ Passed)
+      → (t : Encrypts m rk aad c iv o) × (data_check Encrypt m (length t.text) ≡ Ok tt)
   unfolding data_check
   forth m n e z l =
       ⊎_elim (λ (k, some, x). absurd (omega (arith, rw x at z)))

@@ -2,7 +2,7 @@
 use Rattle.demands.specs.Names as N
 use N.{◌+◌, CipherMode, Checked, and_then, Bool, true, List, [], ◌++◌, ◌∷◌, map, ◌≢◌, ◌≡◌, refl, subst, sym, suc, zero, ℕ, arith, eqb, ltb}
 use N.{length, take, eq-eqb, eqb-false, eqb-true, ne_eqb, block_call, mode_call, block_check, key_and_iv, message_check, retired_check}
-use N.{Ctr as CtrMode, Gcm, Encrypt, Sm4Cipher, Passed, ctr_start, opens_start, seal_start, gcm_starting, CtrState as Ctr, Seal}
+use N.{Ctr as CtrMode, Gcm, Encrypt, Sm4Cipher, Ok, ctr_start, opens_start, seal_start, gcm_starting, CtrState as Ctr, Seal}
 use N.{search_check, which, plan_call, range_call, range_check, reach_check, any_retired, bad_keys, replay, host_block_call, host_mode_call}
 use N.{host_ctr_start, host_opens_start, host_seal_start, host_replay, keys_of, cipher_in, host_key_engine, host_key_retire, key_answer_of}
 use N.{host_ctr_by_plan, host_ctr_range, host_which, LuossavinKey}
@@ -59,15 +59,15 @@ pub retired_decrypts_alike : (k : LuossavinKey) → DecryptsAlike k (host_key_re
 retired_decrypts_alike k = retired_by (DecryptsAlike k) k (alike k) (λ _. search)
 
 -- And nothing is encrypted under a retired record, whatever else it holds.
-not_allowed : (r : Bool) → r ≡ true → retired_check Encrypt r ≡ Passed → ⊥
+not_allowed : (r : Bool) → r ≡ true → retired_check Encrypt r ≡ Ok tt → ⊥
 not_allowed r e p = let z : ◌≡◌ {A = ℕ} 0 1 = cc in omega arith
 
 -- no check passes that begins with such a key
 module _ (c : Sm4Cipher) (r : c.retired ≡ true) (m : CipherMode) (n : ℕ) where
-  no_start : key_and_iv c.answer c.retired Encrypt m n ≡ Passed → ⊥
+  no_start : key_and_iv c.answer c.retired Encrypt m n ≡ Ok tt → ⊥
   no_start p = not_allowed c.retired r (key-and-iv_passed c.answer c.retired Encrypt m n p).may
 
-  no_more : (next : Checked) → and_then (key_and_iv c.answer c.retired Encrypt m n) next ≡ Passed → ⊥
+  no_more : (next : Checked) → and_then (key_and_iv c.answer c.retired Encrypt m n) next ≡ Ok tt → ⊥
   no_more next p = no_start (both (key_and_iv c.answer c.retired Encrypt m n) next p).0
 
 -- a retired key among those of a replay

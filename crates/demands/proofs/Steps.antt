@@ -3,7 +3,7 @@
 use Rattle.demands.specs.Names as N
 use N.{Bool, not, true, List, [], ◌++◌, ◌∷◌, ◌≢◌, ◌⊎◌, ⊎_elim, ◌∙◌, ◌≡◌, refl, ◌%◌, ◌-◌, ℕ, arith, eqb, length, eqb-true, ne_eqb, same}
 use N.{xors, finished, refusal, refusal_head, key_and_iv, key_number, Ctr as CtrMode, Decrypt, Encrypt, Refusal, Ended, ErrorBlockSize}
-use N.{Retired, TooLong, WrongIv, WrongNumber, Checked, Passed, Refused, Stepped, begun, ended, goes_on, step_on, ctr_end, ctr_piece}
+use N.{Retired, TooLong, WrongIv, WrongNumber, Checked, Ok, Err, Stepped, begun, ended, goes_on, step_on, ctr_end, ctr_piece}
 use N.{ctr_start, opens_end, opens_piece, opens_start, seal_end, seal_piece, seal_start, gcm_starting, running, standing, tagged, writing}
 use N.{flow_text, hash_end, ctr_after, ctr_shut, opens_after, opens_shut, seal_after, seal_shut, CtrState as Ctr, CtrCounting, GcmCounting}
 use N.{Opens, Seal, direction_of, host_ctr_start, host_opens_start, host_seal_start, cipher_in, LuossavinKey}
@@ -25,12 +25,12 @@ use mathlib.Core.Bool.{false≢true}
 
 -- a refusal, or what comes next, which may count on it that the check passed
 goes_answers : {S : Type 0} {number : S → ℕ} {o : List ℕ} {s : S} {n : ℕ} (k : Checked) (next : Stepped S)
-    → one_of (goes_on S k o s next).head.number piece_numbers ≡ true → (k ≡ Passed → Fair o n next.head next.bytes)
+    → one_of (goes_on S k o s next).head.number piece_numbers ≡ true → (k ≡ Ok tt → Fair o n next.head next.bytes)
     → (next.head.number ≢ 0 → next.head.number ≢ 4 → next.state ≡ s) → number next.state ≡ number s
     → StepAnswered S number s o n (step_on S (number s) (goes_on S k o s next))
-goes_answers {o = o} {n = n} Passed next i a u c =
+goes_answers {o = o} {n = n} (Ok _) next i a u c =
     record { answered = answered o n piece_numbers _ _ i refl (a refl); carried = c; unmoved = u }
-goes_answers {o = o} {n = n} (Refused r) next i a u c =
+goes_answers {o = o} {n = n} (Err r) next i a u c =
     record { answered = answered o n piece_numbers _ _ i refl (refusal_fair o n r); carried = refl; unmoved = λ _ _. refl }
 
 -- done with no output
@@ -105,7 +105,7 @@ abbrev shut_marks : List ℕ
 shut_marks = 1 ∷ 5 ∷ 10 ∷ 13 ∷ 14 ∷ 12 ∷ []
 
 abbrev Refuses : ℕ → Type 0
-Refuses n = (r : Refusal) × (refusal_head r ≡ refusal n) × (standing n ≡ Refused r)
+Refuses n = (r : Refusal) × (refusal_head r ≡ refusal n) × (standing n ≡ Err r)
 
 refuses : (n : ℕ) → one_of n shut_marks ≡ true → Refuses n
 unfolding standing
@@ -136,9 +136,9 @@ starts : (S : Type 0) (number : S → ℕ) (No : ℕ → S → Type 0) (n : ℕ)
     → ((mark : ℕ) → number (shut mark) ≡ n) → number s ≡ n → ((mark : ℕ) → one_of mark shut_marks ≡ true → No mark (shut mark))
     → within rows (0 ∷ shut_marks) ≡ true → said_in (begun S k shut s).head ≡ first_of rows
     → Starts S number No n (step_on S n (begun S k shut s))
-starts S number No n shut s Passed rows carried first all w i =
+starts S number No n shut s (Ok _) rows carried first all w i =
     ((answered [] 0 piece_numbers n _ refl refl nothing_fair, first), λ z. absurd (z refl))
-starts S number No n shut s (Refused r) rows carried first all w i =
+starts S number No n shut s (Err r) rows carried first all w i =
     let m = rw (ne_eqb (refusal_head r).number 0 (each-refuses r).not-zero) at (numbered rows (0 ∷ shut_marks) _ w i) in
     let known = each (λ n. one_of n piece_numbers ≡ true) shut_marks (refl, (refl, (refl, (refl, (refl, (refl, tt))))))
     (refusal_head r).number m in
@@ -197,10 +197,10 @@ module _ (k : LuossavinKey) (label iv : List ℕ) where
 
 -- what an end leaves that was answered m, which is none of its checks' refusals
 after-end : (S : Type 0) (No : S → Type 0) (k : Checked) (o : List ℕ) (s : S) (next : Stepped S) (m : ℕ)
-    → ((r : Refusal) → k ≡ Refused r → (refusal_head r).number ≢ m) → No next.state
+    → ((r : Refusal) → k ≡ Err r → (refusal_head r).number ≢ m) → No next.state
     → (goes_on S k o s next).head.number ≡ m → No (goes_on S k o s next).state
-after-end S No Passed o s next m n shut e = shut
-after-end S No (Refused r) o s next m n shut e = absurd (n r refl e)
+after-end S No (Ok _) o s next m n shut e = shut
+after-end S No (Err r) o s next m n shut e = absurd (n r refl e)
 
 -- After an end that answered 0, and after one of an opening that answered 4, every call answers 12 and changes nothing.
 pub ctr-after-end : (s : Ctr) → (ctr_end s).head.number ≡ 0 → NoCtr 12 (ctr_end s).state
@@ -216,7 +216,7 @@ seal-after-end s o =
     (shut-seal s.key ended refl)
 
 -- no check of an end refuses by 4
-not-four : (mark label total tag : ℕ) (r : Refusal) → tagged mark label total tag ≡ Refused r → (refusal_head r).number ≢ 4
+not-four : (mark label total tag : ℕ) (r : Refusal) → tagged mark label total tag ≡ Err r → (refusal_head r).number ≢ 4
 unfolding tagged running
 not-four mark label total tag r e four =
     let nine : Row = record { holds = not (eqb tag 16); says = record { number = 9; missing = 16 - tag } } in

@@ -2,7 +2,7 @@
 use Rattle.demands.specs.Names as N
 use N.{AreBytes, Sm4Cipher, false, List, ◌⊎◌, ⊎_elim, ◌∙◌, ◌≡◌, ap, refl, sym, ◌≤◌, ℕ, length, le-ltb, Head, done, keyed, reporting}
 use N.{block_call, block_of, mode_result, data_check, label_check, retired_check, wrong_iv, key_number, limit, mode_of, room_of, CipherMode}
-use N.{Cbc, Cfb, Ctr, Gcm, Ofb, Direction, Decrypt, Encrypt, Passed, host_block_call, host_mode_call, cipher_in, host_key_engine}
+use N.{Cbc, Cfb, Ctr, Gcm, Ofb, Direction, Decrypt, Encrypt, Ok, host_block_call, host_mode_call, cipher_in, host_key_engine}
 use N.{host_key_new, host_key_retire, key_answer_of, key_of, LuossavinKey, lengths_of}
 use Rattle.cipher.proofs.Blocks.{block-decrypt-encrypt, block-encrypt-decrypt}
 use Rattle.cipher_mode.proofs.Ends.{length-block}
@@ -23,14 +23,14 @@ host_encrypts mode k label d iv o p =
     host_leaves Encrypt mode k label d iv o p ∙ rw (encrypts (mode_of mode) k.round_keys label d iv o)
 
 -- who may work in a direction
-allowed : (dir : Direction) (k : LuossavinKey) → (dir ≡ Encrypt → k.retired ≡ 0) → retired_check dir (cipher_in k).retired ≡ Passed
+allowed : (dir : Direction) (k : LuossavinKey) → (dir ≡ Encrypt → k.retired ≡ 0) → retired_check dir (cipher_in k).retired ≡ Ok tt
 unfolding cipher_in
 allowed Encrypt k u = rw (u refl)
 allowed Decrypt k _ = refl
 
 -- a block that was worked in one direction, worked in the other under the same key
 block_takes_back : (there back : Direction) (c l : Sm4Cipher) → l.answer ≡ c.answer → l.rk ≡ c.rk
-    → retired_check back l.retired ≡ Passed
+    → retired_check back l.retired ≡ Ok tt
     → ((b : List ℕ) → length b ≡ 16 → AreBytes b → block_of back c.rk (block_of there c.rk b) ≡ b)
     → ThereAndBack Sixteen (single (block_call there c)) (single (block_call back l))
 block_takes_back there back c l answer keys may undone label b iv o o' bb ib e r =
@@ -111,7 +111,7 @@ set-up-same-key key n m size n₁ n₂ m₁ m₂ =
 
 -- Whoever asks in order is served.
 
-label_in_order : (m : CipherMode) (n : ℕ) → (m ≡ Gcm → n ≤ limit) → label_check m n ≡ Passed
+label_in_order : (m : CipherMode) (n : ℕ) → (m ≡ Gcm → n ≤ limit) → label_check m n ≡ Ok tt
 label_in_order Cfb n _ = refl
 label_in_order Ofb n _ = refl
 label_in_order Ctr n _ = refl

@@ -3,7 +3,7 @@ use Rattle.demands.specs.Names as N
 use N.{false, List, ◌≡◌, refl, ℕ, arith, eqb, ltb, length, take-append_seam, eq-eqb, le-ltb, Outcome, done, keyed, block_call, block_of}
 use N.{lengths_of, mode_call, mode_result, block_check, checked, key_and_iv, message_check, room_check, key_head, key_number, new_cipher}
 use N.{retire, mode_of, room_of, Direction, KeyAnswer, NoKey as ErrorBlockSize, Key, NoNumber as WrongNumber, Sm4Cipher, Sm4CipherMode}
-use N.{Checked, Passed, Refused, begun, host_mode_call, mode_in, cipher_in, host_key_new, host_key_retire, key_answer_of, key_of}
+use N.{Checked, Ok, Err, begun, host_mode_call, mode_in, cipher_in, host_key_new, host_key_retire, key_answer_of, key_of}
 use N.{LuossavinKey}
 use Rattle.block.proofs.Same.{by_test}
 use Rattle.cipher_mode.proofs.Passed.{InOrder, BlockInOrder, message_passed, block_passed}
@@ -14,14 +14,14 @@ use Rattle.demands.proofs.Answering.{mark_back}
 pub result-of-done : (p o : List ℕ) → result (done p o) ≡ p
 result-of-done p o = take-append_seam p _
 
-pub zero_passed : (k : Checked) (o : List ℕ) (next : Outcome) → (checked k o next).head.number ≡ 0 → k ≡ Passed
-zero_passed Passed o next _ = refl
-zero_passed (Refused r) o next e = absurd ((refuses r).not-zero e)
+pub zero_passed : (k : Checked) (o : List ℕ) (next : Outcome) → (checked k o next).head.number ≡ 0 → k ≡ Ok tt
+zero_passed (Ok _) o next _ = refl
+zero_passed (Err r) o next e = absurd ((refuses r).not-zero e)
 
 -- a start that answers 0 has passed
-pub passed_start : (S : Type 0) (k : Checked) (shut : ℕ → S) (s : S) → (begun S k shut s).head.number ≡ 0 → k ≡ Passed
-passed_start S Passed shut s _ = refl
-passed_start S (Refused r) shut s e = absurd ((refuses r).not-zero e)
+pub passed_start : (S : Type 0) (k : Checked) (shut : ℕ → S) (s : S) → (begun S k shut s).head.number ≡ 0 → k ≡ Ok tt
+passed_start S (Ok _) shut s _ = refl
+passed_start S (Err r) shut s e = absurd ((refuses r).not-zero e)
 
 -- a single block
 module _ (dir : Direction) (c : Sm4Cipher) (b o : List ℕ) where

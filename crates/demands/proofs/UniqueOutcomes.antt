@@ -1,14 +1,13 @@
 -- Demand 1, that outcomes can be predicted: any two answers, outputs and states that a contract allows coincide. One theorem for each form
 -- that a public call's contract has, whatever the definition in it gives.
 use Rattle.demands.specs.Names as N
-use N.{Bool, cond, not, List, [], ◌∷◌, ◌∙◌, ◌≡◌, ap, refl, sym, ◌-◌, ℕ, eqb, get_or, Head, Outcome, ending_head, head_of, outcome, Answer}
-use N.{Ending, Done, RefusedEnding as Refused, Stepped, ctr_stepped, opens_stepped, seal_stepped, CtrState as Ctr, CtrStep, Opens}
-use N.{OpensStep, Seal, SealStep, Verdict, asked_head, is_found, verdict_of, Asked, BadList, Candidate, None, RefusedAsked, Found, plan_head}
-use N.{planned_outcome, ByPlan, PlannedEnd, DonePlan, NotAccepted, RefusedPlan, ShelfOutcome, Place, shelf_number as number_of_end}
-use N.{outcome_of, place_in, ShelfEnd, BadShelf, DoneShelf, NoCurrent, NoRoomShelf, NotHigher, ShelfFound, Kept, Leaves, Wrote, head_in}
-use N.{reported, ctr_reported, opens_reported, seal_reported, Handed, planned_reported, shelf_reported, shelved_reported, Told}
-use N.{found_reported, LuossavinAnswer, LuossavinLabel, LuossavinCtrStep, LuossavinOpensStep, LuossavinSealStep, LuossavinShelf}
-use N.{LuossavinShelved, LuossavinFound, LuossavinPlanned}
+use N.{cond, not, List, [], ◌∷◌, ◌∙◌, ◌≡◌, ap, refl, sym, ◌-◌, ℕ, eqb, get_or, Head, Outcome, ending_head, head_of, outcome, refusal_head, Answer}
+use N.{Option, None, Some, Result, Ok, Err, Done, Refusal, Stepped, stepped, Step, CtrState as Ctr, Opens, Seal, Verdict, ended_verdict}
+use N.{verdict_of, Candidate, Unanswered, BadList, RefusedAsked, Found, plan_head, planned_outcome, ByPlan, NotDone, NotAccepted}
+use N.{RefusedPlan, ShelfOutcome, Place, shelf_number, outcome_of, place_in, Unshelved, BadShelf, NoCurrent, NoRoomShelf, NotHigher}
+use N.{ShelfFound, Leaves, Unwritten, head_in, reported, ctr_reported, opens_reported, seal_reported, Handed, planned_reported}
+use N.{shelf_reported, shelved_reported, Told, found_reported, LuossavinAnswer, LuossavinLabel, LuossavinCtrStep, LuossavinOpensStep}
+use N.{LuossavinSealStep, LuossavinShelf, LuossavinShelved, LuossavinFound, LuossavinPlanned}
 use Rattle.demands.proofs.Answering.{told_by, told_back, mark_back}
 use Rattle.demands.specs.OneOutcome.{One, OneValue}
 
@@ -23,15 +22,21 @@ one {R} back told x r₁ r₂ o₁ o₂ e₁ e₂ =
     (ap (λ (p : R × List ℕ). p.0) e, ap (λ (p : R × List ℕ). p.1) e)
 
 -- an answer by its report, and a host's, field by field
-abbrev answer_of : Head → Answer
-answer_of h = record { ending = told_by Ending Done Refused (Done 0) h; came_round = not (eqb h.came_round 0); key = h.key }
+abbrev done_as : Head → ℕ → Result Done Refusal
+done_as h n = Ok (record { length = n; came_round = not (eqb h.came_round 0) })
 
-ending_told : (e : Ending) → told_by Ending Done Refused (Done 0) (ending_head e) ≡ e
-ending_told (Done n) = refl
-ending_told (Refused r) = (told_back Ending Done Refused (Done 0) r).0
+abbrev ending_of : Head → Result Done Refusal
+ending_of h = told_by (Result Done Refusal) (done_as h) Err (done_as h 0) h
+
+abbrev answer_of : Head → Answer
+answer_of h = record { ending = ending_of h; key = h.key }
+
+ending_told : (e : Result Done Refusal) → ending_of (ending_head e) ≡ e
+ending_told (Ok d) = rw (mark_back d.came_round)
+ending_told (Err r) = (told_back (Result Done Refusal) (done_as (refusal_head r)) Err (done_as (refusal_head r) 0) r).0
 
 answer-told : (a : Answer) → answer_of (head_of a) ≡ a
-answer-told a = rw (ending_told a.ending, mark_back a.came_round)
+answer-told a = rw (ending_told a.ending)
 
 abbrev host_answer_of : Head → LuossavinAnswer
 host_answer_of h = record { number = h.number; missing = h.missing; came_round = h.came_round; key = h.key; length = h.size }
@@ -55,15 +60,19 @@ unique_asked = one_value host_answer_of (λ a. refl)
 pub unique_label : (x : List ℕ) → OneValue LuossavinLabel (List ℕ) (λ l. l.bytes) x
 unique_label = one_value (λ b. record { bytes = b }) (λ l. refl)
 
+-- a step, whatever its state is
+unique_step : {S : Type 0} (x : Stepped S) → One (Step S) (Stepped S) stepped x
+unique_step = one (λ y. (record { answer = answer_of y.head; state = y.state }, y.bytes)) (λ r o. rw answer-told)
+
 -- Messages in pieces, be it a start, a piece or an end: the next state too.
-pub unique_ctr-step : (x : Stepped Ctr) → One CtrStep (Stepped Ctr) ctr_stepped x
-unique_ctr-step = one (λ y. (record { answer = answer_of y.head; state = y.state }, y.bytes)) (λ r o. rw answer-told)
+pub unique_ctr-step : (x : Stepped Ctr) → One (Step Ctr) (Stepped Ctr) stepped x
+unique_ctr-step = unique_step
 
-pub unique_seal-step : (x : Stepped Seal) → One SealStep (Stepped Seal) seal_stepped x
-unique_seal-step = one (λ y. (record { answer = answer_of y.head; state = y.state }, y.bytes)) (λ r o. rw answer-told)
+pub unique_seal-step : (x : Stepped Seal) → One (Step Seal) (Stepped Seal) stepped x
+unique_seal-step = unique_step
 
-pub unique_opens-step : (x : Stepped Opens) → One OpensStep (Stepped Opens) opens_stepped x
-unique_opens-step = one (λ y. (record { answer = answer_of y.head; state = y.state }, y.bytes)) (λ r o. rw answer-told)
+pub unique_opens-step : (x : Stepped Opens) → One (Step Opens) (Stepped Opens) stepped x
+unique_opens-step = unique_step
 
 pub unique_exported_ctr-step : (x : Stepped Ctr) → One LuossavinCtrStep (Stepped Ctr) ctr_reported x
 unique_exported_ctr-step = one (λ y. (record { answer = host_answer_of y.head; state = y.state }, y.bytes)) (λ r o. refl)
@@ -75,20 +84,22 @@ pub unique_exported_opens-step : (x : Stepped Opens) → One LuossavinOpensStep 
 unique_exported_opens-step = one (λ y. (record { answer = host_answer_of y.head; state = y.state }, y.bytes)) (λ r o. refl)
 
 -- Which label a file opens under.
-abbrev asked_of : Head → Bool → Asked
-asked_of h found = cond found Candidate (told_by Asked (λ _. None) RefusedAsked BadList h)
+abbrev Asked : Type 0
+Asked = Result (Option Candidate) Unanswered
 
-asked_told : (e : Asked) → asked_of (asked_head e) (is_found e) ≡ e
-asked_told Candidate = refl
-asked_told None = refl
-asked_told BadList = refl
-asked_told (RefusedAsked r) = (told_back Asked (λ _. None) RefusedAsked BadList r).0
+abbrev asked_of : Verdict → Asked
+asked_of v =
+    cond v.found (Ok (Some (record { place = v.place; start = v.start; length = v.size })))
+    (told_by Asked (λ _. Ok None) (λ r. Err (RefusedAsked r)) (Err BadList) v.head)
+
+asked_told : (e : Asked) → asked_of (ended_verdict e) ≡ e
+asked_told (Ok (Some c)) = refl
+asked_told (Ok None) = refl
+asked_told (Err BadList) = refl
+asked_told (Err (RefusedAsked r)) = (told_back Asked (λ _. Ok None) (λ r. Err (RefusedAsked r)) (Err BadList) r).0
 
 pub unique_which : (x : Verdict) → OneValue Found Verdict verdict_of x
-unique_which =
-    one_value
-    (λ v. record { ended = asked_of v.head v.found; key = v.head.key; place = v.place; start = v.start; length = v.size })
-    (λ f. rw asked_told)
+unique_which = one_value (λ v. record { ended = asked_of v; key = v.head.key }) (λ f. rw asked_told)
 
 pub unique_exported_which : (x : Told) → OneValue LuossavinFound Told found_reported x
 unique_exported_which =
@@ -96,35 +107,48 @@ unique_exported_which =
     (λ r. refl)
 
 -- Plans.
-planned-told : (e : PlannedEnd) → told_by PlannedEnd DonePlan RefusedPlan NotAccepted (plan_head e) ≡ e
-planned-told (DonePlan n) = refl
-planned-told NotAccepted = refl
-planned-told (RefusedPlan r) = (told_back PlannedEnd DonePlan RefusedPlan NotAccepted r).0
+abbrev planned_of : Head → Result ℕ NotDone
+planned_of h = told_by (Result ℕ NotDone) Ok (λ r. Err (RefusedPlan r)) (Err NotAccepted) h
+
+planned-told : (e : Result ℕ NotDone) → planned_of (plan_head e) ≡ e
+planned-told (Ok n) = refl
+planned-told (Err NotAccepted) = refl
+planned-told (Err (RefusedPlan r)) = (told_back (Result ℕ NotDone) Ok (λ r. Err (RefusedPlan r)) (Err NotAccepted) r).0
 
 pub unique_by_plan : (x : Outcome) → One ByPlan Outcome planned_outcome x
-unique_by_plan =
-    one (λ y. (record { ended = told_by PlannedEnd DonePlan RefusedPlan NotAccepted y.head; key = y.head.key }, y.bytes))
-    (λ a o. rw planned-told)
+unique_by_plan = one (λ y. (record { ended = planned_of y.head; key = y.head.key }, y.bytes)) (λ a o. rw planned-told)
 
 pub unique_exported_plan : (x : Handed) → OneValue LuossavinPlanned Handed planned_reported x
 unique_exported_plan = one_value (λ h. record { answer = host_answer_of h.head; plan = h.plan }) (λ r. refl)
 
 -- A shelf: what putting, collecting and looking up answer.
-abbrev shelf_end : ℕ → ShelfEnd
-shelf_end n = get_or (DoneShelf ∷ BadShelf ∷ NotHigher ∷ NoRoomShelf ∷ NoCurrent ∷ []) (n - 18) DoneShelf
+abbrev shelf_end : {A : Type 0} → A → (Unshelved → A) → ℕ → A
+shelf_end done refused n =
+    cond (eqb n 0) done (refused (get_or (BadShelf ∷ NotHigher ∷ NoRoomShelf ∷ NoCurrent ∷ []) (n - 19) BadShelf))
 
-shelf_told : (e : ShelfEnd) → shelf_end (number_of_end e) ≡ e
-shelf_told DoneShelf = refl
-shelf_told BadShelf = refl
-shelf_told NotHigher = refl
-shelf_told NoRoomShelf = refl
-shelf_told NoCurrent = refl
+shelf_told : {A : Type 0} (done : A) (refused : Unshelved → A) (e : Unshelved) → shelf_end done refused (shelf_number e) ≡ refused e
+shelf_told done refused BadShelf = refl
+shelf_told done refused NotHigher = refl
+shelf_told done refused NoRoomShelf = refl
+shelf_told done refused NoCurrent = refl
 
-pub unique_kept : (x : ShelfOutcome) → One Kept ShelfOutcome outcome_of x
-unique_kept = one (λ y. (record { ended = shelf_end y.number; used = y.used }, y.bytes)) (λ k o. rw shelf_told)
+abbrev kept_of : ShelfOutcome → Result ℕ Unshelved × List ℕ
+kept_of y = (shelf_end (Ok y.used) Err y.number, y.bytes)
 
-pub unique_found : (x : Place) → OneValue ShelfFound Place place_in x
-unique_found = one_value (λ p. record { ended = shelf_end p.number; start = p.start; length = p.size }) (λ f. rw shelf_told)
+kept_told : (used : ℕ) (k : Result ℕ Unshelved) (o : List ℕ) → kept_of (outcome_of used k o) ≡ (k, o)
+kept_told used (Ok n) o = refl
+kept_told used (Err e) o = rw (shelf_told (Ok used) Err e)
+
+found_told : (f : Result ShelfFound Unshelved)
+    → shelf_end (Ok (record { start = (place_in f).start; length = (place_in f).size })) Err (place_in f).number ≡ f
+found_told (Ok f) = refl
+found_told (Err e) = shelf_told (Ok (record { start = 0; length = 0 })) Err e
+
+pub unique_kept : (used : ℕ) (x : ShelfOutcome) → One (Result ℕ Unshelved) ShelfOutcome (outcome_of used) x
+unique_kept used = one kept_of (kept_told used)
+
+pub unique_found : (x : Place) → OneValue (Result ShelfFound Unshelved) Place place_in x
+unique_found = one_value (λ p. shelf_end (Ok (record { start = p.start; length = p.size })) Err p.number) found_told
 
 pub unique_exported_shelf : (x : ShelfOutcome) → One LuossavinShelf ShelfOutcome shelf_reported x
 unique_exported_shelf = one (λ y. (record { number = y.number; used = y.used }, y.bytes)) (λ r o. refl)
@@ -133,5 +157,5 @@ pub unique_exported_shelved : (x : Place) → OneValue LuossavinShelved Place sh
 unique_exported_shelved = one_value (λ p. record { number = p.number; start = p.start; length = p.size }) (λ r. refl)
 
 -- The writer of a journal.
-pub unique_written : (x : Leaves) → One Wrote Leaves (λ r o. record { wrote = r; bytes = o }) x
+pub unique_written : (x : Leaves) → One (Result ℕ Unwritten) Leaves (λ r o. record { wrote = r; bytes = o }) x
 unique_written = one (λ y. (y.wrote, y.bytes)) (λ r o. refl)

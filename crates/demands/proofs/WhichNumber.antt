@@ -1,10 +1,10 @@
 -- Which number an exported call answers: that of the first of the conditions of docs/REQUIREMENTS.md that holds, and no other.
 use Rattle.demands.specs.Names as N
 use N.{Bool, ◌&&◌, cond, false, not, true, List, [], ◌∷◌, inl, inr, ⊎_elim, ◌≡◌, refl, subst, sym, ℕ, eqb, length, eqb-true, Head, Outcome}
-use N.{finished, refusal, refuse_as, telling, cbc_open, cbc_head, unpadded, CbcDone, InvalidLastU8, InvalidPadding, gcm_open, refusal_head}
+use N.{finished, refusal, refuse_as, telling, cbc_open, cbc_head, unpadded, Ok, InvalidLastU8, InvalidPadding, gcm_open, refusal_head}
 use N.{block_call, lengths_of, mode_call, mode_result, and_then, block_check, checked, data_check, key_and_iv, key_check, message_check}
 use N.{refuse, room_check, new_cipher, wrong_number, CipherMode, Cbc, Cfb, Ctr, Gcm, Ofb, Direction, Decrypt, Encrypt, Refusal, Checked}
-use N.{Passed, Refused, ctr_end, ctr_piece, ctr_start, opens_end, opens_piece, opens_start, seal_end, seal_piece, seal_start, gcm_starting}
+use N.{Ok, Err, ctr_end, ctr_piece, ctr_start, opens_end, opens_piece, opens_start, seal_end, seal_piece, seal_start, gcm_starting}
 use N.{running, standing, tagged, writing, CtrState, Opens, Seal, search_check, which, host_block_call, host_mode_call, host_ctr_start}
 use N.{host_opens_start, host_seal_start, cipher_in, host_key_new, key_answer_of, key_of, host_which, LuossavinKey}
 use Rattle.block.proofs.Same.{by_test}
@@ -18,8 +18,8 @@ use mathlib.Core.Bool.{and_comm, and-true}
 
 -- what is said behind a check, s being what comes next
 abbrev pub behind : Checked → Said → Said
-behind Passed s = s
-behind (Refused r) s = said_in (refusal_head r)
+behind (Ok _) s = s
+behind (Err r) s = said_in (refusal_head r)
 
 pub said-refuse : (t : Bool) (r : Refusal) (k : Checked) (s : Said)
     → behind (refuse t r k) s ≡ cond t (said_in (refusal_head r)) (behind k s)
@@ -27,8 +27,8 @@ said-refuse true r k s = refl
 said-refuse false r k s = refl
 
 pub said_then : (a b : Checked) (s : Said) → behind (and_then a b) s ≡ behind a (behind b s)
-said_then Passed b s = refl
-said_then (Refused r) b s = refl
+said_then (Ok _) b s = refl
+said_then (Err r) b s = refl
 
 -- a record's answer that is no key
 pub said-key : (n : ℕ) (s : Said)
@@ -40,8 +40,8 @@ said-key n s =
 -- a report that was behind a check, or behind a test
 pub said-head : (k : Checked) (h : Head) → said_in (head_behind k h) ≡ behind k (said_in h)
 unfolding head_behind
-said-head Passed h = refl
-said-head (Refused r) h = refl
+said-head (Ok _) h = refl
+said-head (Err r) h = refl
 
 pub said_cond : (t : Bool) (g h : Head) → said_in (cond t g h) ≡ cond t (said_in g) (said_in h)
 said_cond true g h = refl
@@ -76,7 +76,7 @@ exported_block-number Decrypt k b o = simp said_laws
 
 -- opening, by the tests that decide
 cbc_said : (n : ℕ) (none bad : Bool)
-    → said_in (cbc_head (cond none InvalidLastU8 (cond bad InvalidPadding (CbcDone n)))) ≡ cond none (only 3) (cond bad (only 15) (only 0))
+    → said_in (cbc_head (cond none (Err InvalidLastU8) (cond bad (Err InvalidPadding) (Ok n)))) ≡ cond none (only 3) (cond bad (only 15) (only 0))
 cbc_said n true bad = refl
 cbc_said n false true = refl
 cbc_said n false false = refl

@@ -4,10 +4,10 @@ use N.{Bool, false, true, List, [], ◌++◌, ◌∷◌, map, ◌≢◌, ◌∙�
 use N.{number_of, same, unwords, words, gmul, mul_from, times_x, ctr_next, gcm_next, finished, telling, under, CK, L, L', T, T'}
 use N.{encrypt_block, encrypt_words, keys_from, rotl, round_keys, rounds, sbox_table, tau, hash_from, all_padding, names_padding, unpadded}
 use N.{refusal_head, lengths_of, mode_call, block_check, data_check, key_and_iv, message_check, room_check, new_cipher, Direction, Encrypt}
-use N.{Key, Sm4CipherMode, RefusedEnding, Checked, Passed, Refused, Head}
+use N.{Key, Sm4CipherMode, Checked, Ok, Err, Head}
 use Rattle.demands.specs.Worked.{Row, table}
 use Rattle.demands.proofs.Answering.{head_behind, heads}
-use Rattle.cipher_mode.proofs.Refusals.{refuses, quiet_ending}
+use Rattle.cipher_mode.proofs.Refusals.{refuses, quiet_refusal}
 use Rattle.demands.specs.CameRound.{round_of, telling_done}
 use Rattle.demands.specs.Edges.{Row as Edge, verdict, said_of, edges}
 use Rattle.demands.proofs.ModesBack.{encrypts, length_encrypted}
@@ -26,21 +26,21 @@ unfolding message_check block_check key_and_iv data_check room_check new_cipher 
 at_the_edges true = refl
 at_the_edges false = refl
 
-verdict-refused : (k : Checked) (h : Head) (n : ℕ) → k ≢ Passed → head_behind k h ≡ verdict k n
+verdict-refused : (k : Checked) (h : Head) (n : ℕ) → k ≢ Ok tt → head_behind k h ≡ verdict k n
 unfolding head_behind
-verdict-refused Passed h n z = absurd (z refl)
-verdict-refused (Refused r) h n _ = refl
+verdict-refused (Ok _) h n z = absurd (z refl)
+verdict-refused (Err r) h n _ = refl
 
 -- a refusal says nothing of a counter
 verdict-done : (k : Checked) (n : ℕ) (b : Bool) → head_behind k (telling b (finished n)) ≡ telling_done b (verdict k n)
 unfolding head_behind
-verdict-done Passed n b = refl
-verdict-done (Refused r) n b =
-    rw (ne_eqb (refusal_head r).number 0 (refuses r).not-zero) (sym (quiet_ending (RefusedEnding r)))
+verdict-done (Ok _) n b = refl
+verdict-done (Err r) n b =
+    rw (ne_eqb (refusal_head r).number 0 (refuses r).not-zero) (sym (quiet_refusal r))
 
 -- Where the checks refuse, every call under a usable key with those lengths answers what is said, with the key's number.
 pub edge_refused : (dir : Direction) (m : Sm4CipherMode) → m.cipher.answer ≡ Key → (label d iv o : List ℕ)
-    → message_check Key m.cipher.retired dir m.mode (lengths_of label d iv o) ≢ Passed
+    → message_check Key m.cipher.retired dir m.mode (lengths_of label d iv o) ≢ Ok tt
     → (mode_call dir m label d iv o).head ≡ under m.cipher.number (said_of m.cipher.retired dir m.mode (lengths_of label d iv o))
 unfolding mode_call
 edge_refused dir m k label d iv o h = rw k (simp heads (ap (under m.cipher.number) (verdict-refused _ _ _ h)))

@@ -4,9 +4,9 @@ use N.{Bool, ◌||◌, false, not, true, List, Perm, [], ◌++◌, ◌∷◌, ap
 use N.{min, suc, zero, ℕ, arith, eqb, ltb, drop, length, length-append, length-drop, length-take, take, drop-append-le, drop-drop}
 use N.{take-append_seam, le-ltb, ltb-false, blocks_of, ctr_came_round, Head, Outcome, done, keyed, leaving, refusal, refuse_as, reporting}
 use N.{under, over, chain, stream_mode, CtrKind, lengths_of, mode_result, mode_call, and_then, checked, refuse, key_and_iv, message_check}
-use N.{room_check, key_number, limit, mode_of, Ctr, RefusedEnding, NoRoom, TooLong, Checked, Passed, Refused, plan_call, no_pieces, plan_of}
+use N.{room_check, key_number, limit, mode_of, Ctr, NoRoom, TooLong, Checked, Ok, Err, plan_call, no_pieces, plan_of}
 use N.{accepts, planned, range_call, range_check, reach_check, stretch, Share, all_worked, applied, laid_at, share_of, shares_of, worked}
-use N.{Making, BadWorkers, Made, TooLongMade, Plan, mode_in, host_mode_call, direction_of, cipher_in, making_head, host_ctr_by_plan}
+use N.{NotMade, BadWorkers, TooLongMade, Plan, mode_in, host_mode_call, direction_of, cipher_in, making_head, host_ctr_by_plan}
 use N.{host_ctr_range, host_plan_make, LuossavinKey}
 use Rattle.block.proofs.Same.{by_test}
 use Rattle.demands.specs.WhichNumber.{Said, said_in, only, first_of}
@@ -21,7 +21,7 @@ use Rattle.ranges.proofs.Places.{past_the_count}
 use Rattle.ranges.proofs.Planner.{in_order}
 use Rattle.demands.specs.Answered.{Answered}
 use Rattle.demands.proofs.Answering.{numbered, answered, done_fair, checks_fair, front_fair}
-use Rattle.cipher_mode.proofs.Refusals.{refuses, quiet_ending}
+use Rattle.cipher_mode.proofs.Refusals.{refuses, quiet_refusal}
 use Rattle.ranges.proofs.Applied.{length-applied, ranges_commute}
 use Rattle.ranges.proofs.Copied.{nothing_laid}
 use Rattle.ranges.proofs.AnyOrder.{share-of-whole, length-worked, plan_in_any_order}
@@ -68,8 +68,8 @@ exported_make-number n workers =
 -- plan that is accepted.
 
 -- what a range that passes has in order
-in_range : (k : LuossavinKey) (decrypt : Bool) (iv : List ℕ) (offset n room : ℕ) → range_of k decrypt iv offset n room ≡ Passed
-    → (key_and_iv (cipher_in k).answer (cipher_in k).retired (direction_of decrypt) Ctr (length iv) ≡ Passed)
+in_range : (k : LuossavinKey) (decrypt : Bool) (iv : List ℕ) (offset n room : ℕ) → range_of k decrypt iv offset n room ≡ Ok tt
+    → (key_and_iv (cipher_in k).answer (cipher_in k).retired (direction_of decrypt) Ctr (length iv) ≡ Ok tt)
     × (offset + n ≤ limit) × (n ≤ room)
 unfolding range_check reach_check
 in_range k decrypt iv offset n room e =
@@ -110,8 +110,8 @@ exported_plan-answers k decrypt iv plan d o =
 
 module _ (n workers : ℕ) where
   -- where none is made
-  none_handed : (m : Making) → (making_head m ≡ refusal 5) ⊎ (making_head m ≡ refusal 17) → (making_head m).number ≢ 0
-      → PlanHanded n workers (record { head = making_head m; plan = no_pieces })
+  none_handed : (m : NotMade) → (making_head (Err m) ≡ refusal 5) ⊎ (making_head (Err m) ≡ refusal 17) → (making_head (Err m)).number ≢ 0
+      → PlanHanded n workers (record { head = making_head (Err m); plan = no_pieces })
   none_handed m answered some =
       record {
         answered = inr answered;
@@ -122,7 +122,8 @@ module _ (n workers : ℕ) where
         unused = λ i h. (get_or-zeros 64 i, get_or-zeros 64 i);
       }
 
-  one_handed : 1 ≤ workers → workers ≤ 64 → PlanHanded n workers (record { head = making_head Made; plan = plan_of n workers })
+  one_handed : 1 ≤ workers → workers ≤ 64
+      → PlanHanded n workers (record { head = making_head (Ok (plan_of n workers)); plan = plan_of n workers })
   one_handed least most =
       record {
         answered = inl refl;
@@ -140,7 +141,7 @@ module _ (n workers : ℕ) where
   exported_make-answers =
       by_test (eqb workers 0 || ltb 64 workers) (λ e. rw e (none_handed BadWorkers (inr refl) (λ z. omega arith))) (λ e.
       by_test (ltb limit n) (λ f. rw (e, f) (none_handed TooLongMade (inl refl) (λ z. omega arith))) (λ f.
-      let sound = in_order n workers (rw (e, f)) in rw (e, f) (one_handed sound.least sound.most)))
+      let sound = in_order n workers {p = plan_of n workers} (rw (e, f)) in rw (e, f) (one_handed sound.least sound.most)))
 
 -- Ranges and plans beside the single call: work by an accepted plan has its outcome, but for the report of a counter; a range is its
 -- stretch of what the single call gives; two ranges applied to one text give the same in either order; and workers who each do their
@@ -148,13 +149,13 @@ module _ (n workers : ℕ) where
 
 -- by key and IV, the length and the room
 alike : (k : ℕ) (c o : List ℕ) (b : Bool) (a : Checked) (long short : Bool)
-    → keyed k (checked (and_then a (refuse long TooLong Passed)) o (refuse_as short 6 o (done c o)))
+    → keyed k (checked (and_then a (refuse long TooLong (Ok tt))) o (refuse_as short 6 o (done c o)))
     ≡ unsaid
-    (keyed k (checked (and_then a (and_then (refuse long TooLong Passed) (refuse short NoRoom Passed))) o (reporting b (done c o))))
-alike k c o b (Refused r) long short = ap {B = Outcome} (λ (h : Head). leaving (under k h) o) (sym (quiet_ending (RefusedEnding r)))
-alike k c o b Passed true short = refl
-alike k c o b Passed false true = refl
-alike k c o b Passed false false = refl
+    (keyed k (checked (and_then a (and_then (refuse long TooLong (Ok tt)) (refuse short NoRoom (Ok tt)))) o (reporting b (done c o))))
+alike k c o b (Err r) long short = ap {B = Outcome} (λ (h : Head). leaving (under k h) o) (sym (quiet_refusal r))
+alike k c o b (Ok _) true short = refl
+alike k c o b (Ok _) false true = refl
+alike k c o b (Ok _) false false = refl
 
 -- By an accepted plan, whoever made it, the outcome is the single call's, done or refused, in every byte and every field but the report
 -- of a counter.
@@ -180,11 +181,11 @@ module _ (k : LuossavinKey) (decrypt : Bool) (label d iv o : List ℕ) (e : (ctr
   call-gives = leaves (direction_of decrypt) (mode_in k 2) label d iv o call_in_order
 
   -- so every range within the text passes, given room
-  within_passes : (offset n room : ℕ) → offset + n ≤ length d → n ≤ room → range_of k decrypt iv offset n room ≡ Passed
+  within_passes : (offset n room : ℕ) → offset + n ≤ length d → n ≤ room → range_of k decrypt iv offset n room ≡ Ok tt
   unfolding range_check reach_check key_and_iv
   within_passes offset n room h g =
       let q = call_in_order in
-      let within = ltb-false limit (length d) (let_through _ TooLong Passed (rw ctr-data at q.content)).fails in
+      let within = ltb-false limit (length d) (let_through _ TooLong (Ok tt) (rw ctr-data at q.content)).fails in
       rw (q.key, q.iv-size, q.may, le-ltb limit (offset + n) (omega arith), le-ltb room n g)
 
 -- The exported range is its stretch of what the exported single call gives of the whole, whatever is before and behind it.
@@ -213,18 +214,18 @@ stretch-of_the_call =
 
 -- by what the check says: the text with the range in it, or the text
 abbrev does : Checked → (List ℕ → List ℕ) → List ℕ → List ℕ
-does Passed f t = f t
-does (Refused r) f t = t
+does (Ok _) f t = f t
+does (Err r) f t = t
 
 laid_by : (check : Checked) (k at : ℕ) (s o t : List ℕ) (f : List ℕ → List ℕ) → laid_at at s t ≡ f t
     → laid_at at (result (keyed k (checked check o (done s o)))) t ≡ does check f t
-laid_by Passed k at s o t f e = ap (λ (l : List ℕ). laid_at at l t) (result-of-done s o) ∙ e
-laid_by (Refused r) k at s o t f e = ap (λ (n : ℕ). laid_at at (take n o) t) (refuses r).no_size ∙ nothing_laid at t
+laid_by (Ok _) k at s o t f e = ap (λ (l : List ℕ). laid_at at l t) (result-of-done s o) ∙ e
+laid_by (Err r) k at s o t f e = ap (λ (n : ℕ). laid_at at (take n o) t) (refuses r).no_size ∙ nothing_laid at t
 
 either_way : (x y : Checked) (f g : List ℕ → List ℕ) (t : List ℕ) → f (g t) ≡ g (f t) → does x f (does y g t) ≡ does y g (does x f t)
-either_way Passed Passed f g t e = e
-either_way Passed (Refused r) f g t e = refl
-either_way (Refused q) y f g t e = refl
+either_way (Ok _) (Ok _) f g t e = e
+either_way (Ok _) (Err r) f g t e = refl
+either_way (Err q) y f g t e = refl
 
 -- a share is no longer than what is behind its start
 length-share : (p : Share) (l : List ℕ) → length (share_of p l) ≡ min p.size (length l - p.start)
@@ -245,8 +246,8 @@ module _ (a : Applying) where
       rw (length-share a.share t) (laid_by (check_of (length t)) (key_number (cipher_in a.key)) a.share.start s a.out t into refl)
 
   length_does : (check : Checked) (t : List ℕ) → length (does check into t) ≡ length t
-  length_does Passed t = length-applied a.key.round_keys a.iv a.share t
-  length_does (Refused r) t = refl
+  length_does (Ok _) t = length-applied a.key.round_keys a.iv a.share t
+  length_does (Err r) t = refl
 
 -- Two ranges applied to one text through the exported call leave the same bytes in either order.
 pub exported_ranges_commute : RangesCommute host_ctr_range
@@ -269,10 +270,10 @@ laid_over at n s o h =
     (rw (← drop-drop (length v) at o, front-and-rest n (drop at o), drop-drop (length s) at o))
 
 -- what a call leaves that passes where there is something to do
-done-or-nothing : (c : Checked) (s v : List ℕ) → (1 ≤ length s → c ≡ Passed) → (checked c v (done s v)).bytes ≡ over s v
+done-or-nothing : (c : Checked) (s v : List ℕ) → (1 ≤ length s → c ≡ Ok tt) → (checked c v (done s v)).bytes ≡ over s v
 done-or-nothing c (x ∷ s) v h = rw (h (omega arith))
-done-or-nothing Passed [] v h = refl
-done-or-nothing (Refused r) [] v h = refl
+done-or-nothing (Ok _) [] v h = refl
+done-or-nothing (Err r) [] v h = refl
 
 module _ (k : LuossavinKey) (decrypt : Bool) (label d iv o₀ : List ℕ)
     (e : (host_mode_call (direction_of decrypt) 2 k label d iv o₀).head.number ≡ 0) where

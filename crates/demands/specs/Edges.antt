@@ -4,7 +4,7 @@ use Rattle.demands.specs.Names as N
 use Rattle.std.specs.Prelude.{◌++◌, ◌∷◌, ◌-◌}
 use N.{Bool, cond, false, true, List, [], map, ℕ, replicate, Head, cut_short, finished, refusal, cbc_head, unpadded, gcm_head, refusal_head}
 use N.{block_check, message_check, key_head, new_cipher, room_of, CipherMode, Cbc, Cfb, Ctr, Gcm, Ofb, Direction, Decrypt, Encrypt, Key}
-use N.{Checked, Passed, Refused, Lengths}
+use N.{Checked, Ok, Err, Lengths}
 
 -- a message of so many bytes, under an IV of so many, without a label, with so much room
 abbrev pub sizes : ℕ → ℕ → ℕ → Lengths
@@ -12,8 +12,8 @@ sizes iv d room = record { iv = iv; label = 0; «data» = d; room = room }
 
 -- what the checks say: a refusal, or that the call goes on, with the table's room
 abbrev pub verdict : Checked → ℕ → Head
-verdict Passed n = finished n
-verdict (Refused r) n = refusal_head r
+verdict (Ok _) n = finished n
+verdict (Err r) n = refusal_head r
 
 -- under a key, retired or not
 abbrev pub said_of : Bool → Direction → CipherMode → Lengths → Head

@@ -4,7 +4,7 @@ use Rattle.demands.specs.Names as N
 use Rattle.std.specs.Prelude.{◌++◌, ◌∷◌, ◌*◌, ◌+◌, ◌-◌, ◌/◌}
 use N.{Bool, false, not, true, List, [], ℕ, eqb, drop, length, replicate, take, blocks_of, ctr_came_round, Outcome, done, leaving}
 use N.{refuse_as, refused, telling, over, round_keys, and_then, checked, data_check, key_and_iv, refuse, key_number, new_cipher, Ctr, Gcm}
-use N.{Direction, Decrypt, Encrypt, Key, Sm4Cipher, TooLong, Passed, Stepped, begun, step_on, seal_after, seal_shut, Seal, any_too_long}
+use N.{Direction, Decrypt, Encrypt, Key, Sm4Cipher, TooLong, Ok, Stepped, begun, step_on, seal_after, seal_shut, Seal, any_too_long}
 use N.{checked_verdict, first_opening, on_key, opens_with, accepts, Plan, ShelfOutcome, holding, put_in, shelf_refuse, records}
 use N.{stored_shelf as stored, bad_shelf, current_of, fitted, not_higher, supersede, host_hash_blocks, host_hash_join, host_mode_call}
 use N.{direction_of, cipher_in, host_key_new, host_ctr_by_plan, host_ctr_range, Told, host_which, told_of, U128, LuossavinKey}
@@ -109,7 +109,7 @@ file_first k file iv labels lengths =
     (on_key (key_number c)
     (checked_verdict
     (and_then (key_and_iv c.answer c.retired Decrypt Gcm (length iv))
-    (and_then (data_check Decrypt Gcm (length file)) (refuse (any_too_long lengths) TooLong Passed)))
+    (and_then (data_check Decrypt Gcm (length file)) (refuse (any_too_long lengths) TooLong (Ok tt))))
     (first_opening (opens_with c iv file) labels lengths 0 0)))
 
 -- does a range from the start of the block that its offset lies in

@@ -3,13 +3,13 @@
 use Rattle.demands.specs.Names as N
 use Rattle.std.specs.Prelude.{◌∷◌, ◌⊎◌, ◌≡◌, ◌+◌, ◌<◌, ◌≤◌}
 use N.{cond, false, true, List, [], ℕ, eqb, length, Ends, Replayable, answer_now, Entry, output_limit, sums, bad_keys}
-use N.{key_of_journal as key_of, keys_in, result_of, nothing, total, BadKeys, Replayed, host_mode_call, keys_of, told_of_journal as told_of}
+use N.{key_of_journal as key_of, keys_in, result_of, nothing, total, refused_journal as refused, BadKeys, Replayed, host_mode_call, keys_of, told_of_journal as told_of}
 use N.{cipher_in, LuossavinKeys, LuossavinReplayed, LuossavinKey}
 use Rattle.demands.specs.Answered.{one_of}
 
 -- what a host is told where the keys are bad: 26, and nothing else
 abbrev pub bad_keys_told : LuossavinReplayed
-bad_keys_told = told_of (record { ended = BadKeys; place = 0; report = nothing })
+bad_keys_told = told_of (refused BadKeys 0 nothing)
 
 -- x is what a host is told of a replay
 pub record ReplayAnswered (x : LuossavinReplayed) : Type 0 where
@@ -29,7 +29,7 @@ pub record ReplayAnswered (x : LuossavinReplayed) : Type 0 where
 -- x is how the replay ends, by what the keys are and what the journal holds
 abbrev pub ReplayEnds : LuossavinKeys → List ℕ → Replayed → Type 0
 ReplayEnds k journal x =
-    ((bad_keys (keys_of k) ≡ true) × (x ≡ record { ended = BadKeys; place = 0; report = nothing }))
+    ((bad_keys (keys_of k) ≡ true) × (x ≡ refused BadKeys 0 nothing))
     ⊎ ((bad_keys (keys_of k) ≡ false) × Ends (keys_in (keys_of k)) journal 0 nothing x)
 
 -- z is what is told of two journals joined, the first of so many bytes, of which alone x and y are told

@@ -1,14 +1,16 @@
 -- Calls that look like the replay of a journal to a careless test, and are not.
 use Rattle.demands.specs.Names as N
 use Rattle.std.specs.Prelude.{◌∷◌}
-use N.{cond, false, List, [], ℕ, ltb, replicate, take, word_at, Encrypt, Key, Entry, from_label, part_limit, bad_keys}
-use N.{journal_refuse as refuse, replay, nothing, BadKeys, TooLongJournal as TooLong, Replayed, Keys}
+use N.{false, Option, None, Some, List, [], ℕ, ltb, replicate, take, word_at, Encrypt, Key, Entry, from_label, part_limit, bad_keys}
+use N.{journal_refuse as refuse, replay, nothing, report_of, BadKeys, TooLongJournal as TooLong, Difference, Replayed, Keys}
 
 -- replays a journal up to the first record that differs, and stops there
+abbrev pub stops_at : Option Difference → Keys → List ℕ → Replayed
+stops_at None k journal = replay k journal
+stops_at (Some first) k journal = replay k (take first.place journal)
+
 abbrev pub stops_at_difference : Keys → List ℕ → Replayed
-stops_at_difference k journal =
-    let first = (replay k journal).report.first in
-    cond first.found (replay k (take first.place journal)) (replay k journal)
+stops_at_difference k journal = stops_at (report_of (replay k journal)).first k journal
 
 -- replays a journal, and looks at the length of the first label before it looks whether the record is cut
 abbrev pub too_long_first : Keys → List ℕ → Replayed

@@ -1,5 +1,6 @@
 -- The names of the layers below, and of the kit, that the demands are written with, each with the module where it is defined.
 pub use Rattle.std.specs.Prelude.{Bool, ◌&&◌, ◌||◌, cond, false, not, true, ◌≢◌, ◌⊎◌, ◌≡◌, refl, ◌%◌, ◌*◌, ◌+◌, ◌-◌, ◌/◌, ◌<◌, ◌^◌, ◌≤◌}
+pub use Rattle.std.specs.Prelude.{Err, None, Ok, Option, Result, Some}
 pub use Rattle.std.specs.Prelude.{max, min, suc, zero, ℕ, eqb, leb, ltb, drop, get_or, length, replicate, take}
 pub use mathlib.Core.List.Pairwise.{cons as PairwiseCons}
 pub use mathlib.Core.List.{List, Mem, Perm, [], ◌++◌, ◌∷◌, append_assoc, append-nil, foldr, map, mem_of_ne_of_mem}
@@ -47,8 +48,8 @@ pub use Rattle.padding.specs.Padding.{last_byte, padding}
 unfoldable pub use Rattle.padding.specs.Padding.{all_padding, names_padding, unpadded}
 pub use Rattle.cbc.specs.Cbc.{cbc_text}
 unfoldable pub use Rattle.cbc.specs.Cbc.{cbc_seal}
-pub use Rattle.padding.specs.declared.Opened.{Opened}
-pub use Rattle.padding.specs.declared.Opened.TheVariants.{Done as CbcDone, InvalidLastU8, InvalidPadding}
+pub use Rattle.padding.specs.declared.BadPadding.{BadPadding}
+pub use Rattle.padding.specs.declared.BadPadding.TheVariants.{InvalidLastU8, InvalidPadding}
 pub use Rattle.gcm.specs.Gcm.{J0, hashed_counter, tag_part, text_part}
 unfoldable pub use Rattle.gcm.specs.Gcm.{first_counter, hash_key, opens_under, sealed, tag_of, text_of}
 pub use Rattle.cipher_mode.specs.Calls.{cbc_head, gcm_head}
@@ -56,7 +57,7 @@ unfoldable pub use Rattle.cipher_mode.specs.Calls.{cbc_open, gcm_open}
 pub use Rattle.cipher_mode.specs.Answer.{ending_head, head_of, outcome, refusal_head}
 pub use Rattle.cipher_mode.specs.Calls.{block_of, cfb_kind, gcm_result, gcm_round, lengths_of, mode_result}
 unfoldable pub use Rattle.cipher_mode.specs.Calls.{block_call, mode_call}
-pub use Rattle.cipher_mode.specs.Checks.{and_then, checked, key_check, label_check, refuse, retired_check, wrong_iv}
+pub use Rattle.cipher_mode.specs.Checks.{Checked, and_then, checked, key_check, label_check, refuse, retired_check, wrong_iv}
 unfoldable pub use Rattle.cipher_mode.specs.Checks.{block_check, data_check, key_and_iv, message_check, room_check}
 pub use Rattle.cipher_mode.specs.Key.{key_head, key_number, wrong_number}
 unfoldable pub use Rattle.cipher_mode.specs.Key.{new_cipher, new_cipher_mode, retire, with_engine}
@@ -70,50 +71,45 @@ pub use Rattle.cipher_mode.specs.declared.KeyAnswer.{KeyAnswer}
 pub use Rattle.cipher_mode.specs.declared.KeyAnswer.TheVariants.{ErrorBlockSize as NoKey, Key, WrongNumber as NoNumber}
 pub use Rattle.cipher_mode.specs.declared.Sm4Cipher.{Sm4Cipher}
 pub use Rattle.cipher_mode.specs.declared.Sm4CipherMode.{Sm4CipherMode}
+pub use Rattle.cipher_mode.specs.declared.Done.{Done}
 pub use Rattle.cipher_mode.specs.declared.answer.Answer.{Answer}
-pub use Rattle.cipher_mode.specs.declared.answer.Ending.{Ending}
-pub use Rattle.cipher_mode.specs.declared.answer.Ending.TheVariants.{Done, Refused as RefusedEnding}
 pub use Rattle.cipher_mode.specs.declared.answer.Refusal.{Refusal}
 pub use Rattle.cipher_mode.specs.declared.answer.Refusal.TheVariants.{EmptyCbc, Ended, ErrorBlockSize, ErrorDataLen}
 pub use Rattle.cipher_mode.specs.declared.answer.Refusal.TheVariants.{InvalidLastU8 as RefusalLastU8, InvalidPadding as RefusalPadding}
 pub use Rattle.cipher_mode.specs.declared.answer.Refusal.TheVariants.{InvalidTag as RefusalTag, NoRoom, Retired, ShortGcm, TooLong}
 pub use Rattle.cipher_mode.specs.declared.answer.Refusal.TheVariants.{WrongBlock, WrongIv, WrongNumber}
-pub use Rattle.cipher_mode.specs.declared.checks.Checked.{Checked}
-pub use Rattle.cipher_mode.specs.declared.checks.Checked.TheVariants.{Passed, Refused}
 pub use Rattle.cipher_mode.specs.declared.checks.Lengths.{Lengths}
-pub use Rattle.pieces.specs.Calls.{Stepped, begun, ctr_stepped, ended, goes_on, opens_stepped, seal_stepped, step_on}
+pub use Rattle.pieces.specs.Calls.{Stepped, begun, ended, goes_on, step_on, stepped}
 unfoldable pub use Rattle.pieces.specs.Calls.{ctr_end, ctr_piece, ctr_start, opens_end, opens_piece, opens_start, seal_end, seal_piece}
 unfoldable pub use Rattle.pieces.specs.Calls.{seal_start}
 unfoldable pub use Rattle.pieces.specs.Checks.{gcm_starting, running, standing, tagged, writing}
 unfoldable pub use Rattle.pieces.specs.Flow.{flow_text}
 unfoldable pub use Rattle.pieces.specs.Hashing.{hash_end}
 unfoldable pub use Rattle.pieces.specs.States.{ctr_after, ctr_shut, opens_after, opens_shut, seal_after, seal_shut}
+pub use Rattle.pieces.specs.declared.Step.{Step}
 pub use Rattle.pieces.specs.declared.ctr.Ctr.{Ctr as CtrState}
-pub use Rattle.pieces.specs.declared.ctr.CtrStep.{CtrStep}
 pub use Rattle.pieces.specs.declared.flow.Counting.TheVariants.{Ctr as CtrCounting, Gcm as GcmCounting}
 pub use Rattle.pieces.specs.declared.opens.Opens.{Opens}
-pub use Rattle.pieces.specs.declared.opens.OpensStep.{OpensStep}
 pub use Rattle.pieces.specs.declared.seal.Seal.{Seal}
-pub use Rattle.pieces.specs.declared.seal.SealStep.{SealStep}
 unfoldable pub use Rattle.editions.specs.Candidates.{any_too_long, bad_list, label_at, sum}
-pub use Rattle.editions.specs.Which.{Verdict, checked_verdict, ended_head as asked_head, is_found, none_with, on_key, opens_with, verdict_of}
+pub use Rattle.editions.specs.Which.{Verdict, checked_verdict, ended_verdict, none_with, on_key, opens_with, unanswered_head, verdict_of}
 unfoldable pub use Rattle.editions.specs.Which.{first_opening, search_check, which}
-pub use Rattle.editions.specs.declared.Ended.{Ended as Asked}
-pub use Rattle.editions.specs.declared.Ended.TheVariants.{BadList, Candidate, None, Refused as RefusedAsked}
+pub use Rattle.editions.specs.declared.Candidate.{Candidate}
+pub use Rattle.editions.specs.declared.Unanswered.{Unanswered}
+pub use Rattle.editions.specs.declared.Unanswered.TheVariants.{BadList, Refused as RefusedAsked}
 pub use Rattle.editions.specs.declared.Found.{Found}
 pub use Rattle.ranges.specs.ByPlan.{ended_head as plan_head, planned_outcome}
 unfoldable pub use Rattle.ranges.specs.ByPlan.{plan_call}
-pub use Rattle.ranges.specs.Plan.{no_pieces, plan_of, without}
+pub use Rattle.ranges.specs.Plan.{no_pieces, plan_of}
 unfoldable pub use Rattle.ranges.specs.Plan.{accepts, follows, piece_size, planned}
 unfoldable pub use Rattle.ranges.specs.Range.{range_call, range_check, reach_check, stretch}
 pub use Rattle.ranges.specs.Shares.{Share, all_worked, applied, laid_at, share_of, shares_of, worked}
 pub use Rattle.ranges.specs.declared.by_plan.ByPlan.{ByPlan}
-pub use Rattle.ranges.specs.declared.by_plan.Ended.{Ended as PlannedEnd}
-pub use Rattle.ranges.specs.declared.by_plan.Ended.TheVariants.{Done as DonePlan, NotAccepted, Refused as RefusedPlan}
-pub use Rattle.ranges.specs.declared.plan.Making.{Making}
-pub use Rattle.ranges.specs.declared.plan.Making.TheVariants.{BadWorkers, Made, TooLong as TooLongMade}
+pub use Rattle.ranges.specs.declared.by_plan.NotDone.{NotDone}
+pub use Rattle.ranges.specs.declared.by_plan.NotDone.TheVariants.{NotAccepted, Refused as RefusedPlan}
+pub use Rattle.ranges.specs.declared.plan.NotMade.{NotMade}
+pub use Rattle.ranges.specs.declared.plan.NotMade.TheVariants.{BadWorkers, TooLong as TooLongMade}
 pub use Rattle.ranges.specs.declared.plan.Plan.{Plan}
-pub use Rattle.ranges.specs.declared.plan.Planned.{Planned}
 unfoldable pub use Rattle.label.specs.Label.{label_of}
 pub use Rattle.shelf.specs.Calls.{Outcome as ShelfOutcome, Place, holding, looked_up, new_record, nowhere, number_of_end as shelf_number}
 pub use Rattle.shelf.specs.Calls.{outcome_of, place_in, put_in, refuse as shelf_refuse}
@@ -124,10 +120,9 @@ unfoldable pub use Rattle.shelf.specs.Records.{starts_record as starts_record_sh
 pub use Rattle.shelf.specs.Shelf.{collected, current_of, is_current_of}
 unfoldable pub use Rattle.shelf.specs.Shelf.{bad_shelf, fitted, has_current, not_higher, supersede, those, two_current, with_new}
 pub use Rattle.shelf.specs.Steps.{InOrder}
-pub use Rattle.shelf.specs.declared.Ended.{Ended as ShelfEnd}
-pub use Rattle.shelf.specs.declared.Ended.TheVariants.{BadShelf, Done as DoneShelf, NoCurrent, NoRoom as NoRoomShelf, NotHigher}
 pub use Rattle.shelf.specs.declared.Found.{Found as ShelfFound}
-pub use Rattle.shelf.specs.declared.Kept.{Kept}
+pub use Rattle.shelf.specs.declared.Unshelved.{Unshelved}
+pub use Rattle.shelf.specs.declared.Unshelved.TheVariants.{BadShelf, NoCurrent, NoRoom as NoRoomShelf, NotHigher}
 pub use Rattle.journal.specs.Ends.{AllReplayable, Ends, NoneDiffers, Replayable, Totals, answer_now, differs}
 unfoldable pub use Rattle.journal.specs.Ends.{counted_all}
 pub use Rattle.journal.specs.Format.{Entry, from_label, output_limit, part_limit, too_long}
@@ -139,19 +134,21 @@ pub use Rattle.journal.specs.KeyList.{has_number, key_at, key_of as key_of_journ
 unfoldable pub use Rattle.journal.specs.KeyList.{any_retired, bad_keys, number_twice, place_of}
 pub use Rattle.journal.specs.Recomputed.{answered_by, judged, recomputed, result as result_of}
 unfoldable pub use Rattle.journal.specs.Recomputed.{call_into, differs_from}
-pub use Rattle.journal.specs.Replay.{counted_under, done as done_journal, number_of_end, refuse as journal_refuse}
+pub use Rattle.journal.specs.Replay.{Replayed, and_then as journal_then, counted_under, done as done_journal, ended as ended_journal, number_of_end}
+pub use Rattle.journal.specs.Replay.{place_told, refuse as journal_refuse, refused as refused_journal, report_of}
 unfoldable pub use Rattle.journal.specs.Replay.{replay, replay_one, replay_up_to}
-pub use Rattle.journal.specs.Reports.{nothing}
+pub use Rattle.journal.specs.Reports.{OfRecords, nothing}
 unfoldable pub use Rattle.journal.specs.Reports.{counted, total}
 pub use Rattle.journal.specs.Writer.{Leaves}
 unfoldable pub use Rattle.journal.specs.Writer.{write}
-pub use Rattle.journal.specs.declared.Ended.{Ended as JournalEnd}
-pub use Rattle.journal.specs.declared.Ended.TheVariants.{BadKeys, BadRecord, Done as DoneJournal, TooLong as TooLongJournal, UnknownKey}
-pub use Rattle.journal.specs.declared.Replayed.{Replayed}
+pub use Rattle.journal.specs.declared.Stop.{Stop}
+pub use Rattle.journal.specs.declared.Stop.TheVariants.{BadKeys, BadRecord, TooLong as TooLongJournal, UnknownKey}
+pub use Rattle.journal.specs.declared.Stopped.{Stopped}
 pub use Rattle.journal.specs.declared.keys.Keys.{Keys}
+pub use Rattle.journal.specs.declared.report.Difference.{Difference}
 pub use Rattle.journal.specs.declared.report.Report.{Report}
-pub use Rattle.journal.specs.declared.writer.Wrote.{Wrote}
-pub use Rattle.journal.specs.declared.writer.Wrote.TheVariants.{Done as DoneWrote, NoRoom as NoRoomWrote}
+pub use Rattle.journal.specs.declared.writer.Unwritten.{Unwritten}
+pub use Rattle.journal.specs.declared.writer.Unwritten.TheVariants.{NoRoom as NoRoomWrote}
 pub use Rattle.luossavin.specs.Edition.{checked_head}
 unfoldable pub use Rattle.luossavin.specs.Edition.{host_edition_opens, opens_head}
 pub use Rattle.luossavin.specs.Halves.{hash_of}
@@ -160,9 +157,10 @@ pub use Rattle.luossavin.specs.Host.{head_in, mode_in, reported}
 unfoldable pub use Rattle.luossavin.specs.Host.{host_block_call, host_mode_call}
 pub use Rattle.luossavin.specs.InPieces.{ctr_reported, direction_of, opens_reported, seal_reported}
 unfoldable pub use Rattle.luossavin.specs.InPieces.{host_ctr_start, host_opens_start, host_seal_start}
+pub use Rattle.luossavin.specs.Journals.{difference_told, differs_told}
 unfoldable pub use Rattle.luossavin.specs.Journals.{host_replay, keys_of, told_of as told_of_journal}
 unfoldable pub use Rattle.luossavin.specs.Key.{cipher_in, host_key_engine, host_key_new, host_key_retire, key_answer_of, key_of}
-pub use Rattle.luossavin.specs.Ranges.{Handed, making_head, planned_reported}
+pub use Rattle.luossavin.specs.Ranges.{Handed, making_head, plan_told, planned_reported}
 unfoldable pub use Rattle.luossavin.specs.Ranges.{host_ctr_by_plan, host_ctr_range, host_plan_make}
 pub use Rattle.luossavin.specs.Shelves.{shelf_reported, shelved_reported}
 pub use Rattle.luossavin.specs.Which.{Told, found_reported, told_of}

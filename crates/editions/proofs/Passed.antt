@@ -4,7 +4,7 @@ use Rattle.cipher_mode.specs.declared.KeyAnswer.{KeyAnswer}
 use Rattle.cipher_mode.specs.declared.KeyAnswer.TheVariants.{Key}
 use Rattle.cipher_mode.specs.declared.CipherMode.TheVariants.{Gcm}
 use Rattle.cipher_mode.specs.declared.Direction.TheVariants.{Decrypt}
-use Rattle.cipher_mode.specs.declared.checks.Checked.TheVariants.{Passed}
+use Rattle.std.proofs.Common.{Ok}
 use Rattle.cipher_mode.specs.Checks.{wrong_iv, key_and_iv, data_check}
 use Rattle.cipher_mode.proofs.Passed.{let_through, both, key-and-iv_passed}
 use Rattle.editions.specs.Candidates.{sum, bad_list, any_too_long}
@@ -26,10 +26,10 @@ pub record InOrder (a : KeyAnswer) (iv file : ℕ) (lengths : List ℕ) : Type 0
   pub key : a ≡ Key
   pub iv-size : wrong_iv Gcm iv ≡ false
   pub short : any_too_long lengths ≡ false
-  pub content : data_check Decrypt Gcm file ≡ Passed
+  pub content : data_check Decrypt Gcm file ≡ Ok tt
 
 pub search_passed : (a : KeyAnswer) (retired : Bool) (iv file : ℕ) (lengths : List ℕ)
-    → search_check a retired iv file lengths ≡ Passed → InOrder a iv file lengths
+    → search_check a retired iv file lengths ≡ Ok tt → InOrder a iv file lengths
 unfolding search_check
 search_passed a retired iv file lengths e =
     let from_key = both (key_and_iv a retired Decrypt Gcm iv) _ e in

@@ -1,6 +1,7 @@
 -- What the definitions over the lengths say at one length, and after the last.
-use Rattle.block.proofs.Base.{◌+◌, ◌-◌, ◌<◌, ◌≤◌, ℕ, ◌∙◌, ◌≡◌, refl, sym, Bool, ◌||◌, cond, false, true, true≢false, List, add-one, arith}
+use Rattle.block.proofs.Base.{◌+◌, ◌-◌, ◌<◌, ◌≤◌, ℕ, ◌∙◌, ◌≡◌, refl, sym, Bool, ◌||◌, cond, false, true, true≢false, List, [], ◌∷◌, add-one, arith}
 use Rattle.block.proofs.Base.{ltb-false, ltb, drop, drop_of_length-le, get_or, length, take, drop-cons, drop-drop}
+use Rattle.std.specs.List.{list_any}
 use Rattle.cipher_mode.specs.Outcome.{finished}
 use Rattle.cipher_mode.specs.Tables.{limit}
 use Rattle.editions.specs.Candidates.{sum, any_too_long}
@@ -9,6 +10,12 @@ use Rattle.editions.specs.Which.{Verdict, found_at, none_with, first_opening}
 pub or-false : (t u : Bool) → t || u ≡ false → (t ≡ false) × (u ≡ false)
 or-false true u e = absurd (true≢false e)
 or-false false u e = (refl, e)
+
+-- what `any` tells of the lengths
+pub any_long : (ns : List ℕ) → list_any (ltb limit) ns ≡ any_too_long ns
+unfolding any_too_long
+any_long [] = refl
+any_long (n ∷ ns) = rw (any_long ns)
 
 module _ (ns : List ℕ) (i : ℕ) (inside : i < length ns) where
   pub sum_turn : sum (drop i ns) ≡ get_or ns i 0 + sum (drop (i + 1) ns)

@@ -4,8 +4,8 @@ use Rattle.block.proofs.Base.{◌+◌, ◌<◌, ◌≤◌, suc, zero, ℕ, ◌�
 use Rattle.block.proofs.Base.{[], ◌∷◌, arith, le-ltb, drop, get_or, length, take}
 use Rattle.cipher_mode.specs.Outcome.{Head, finished, refusal, under}
 use Rattle.cipher_mode.specs.declared.Sm4Cipher.{Sm4Cipher}
-use Rattle.cipher_mode.specs.declared.checks.Checked.{Checked}
-use Rattle.cipher_mode.specs.declared.checks.Checked.TheVariants.{Passed, Refused}
+use Rattle.cipher_mode.specs.Checks.{Checked}
+use Rattle.std.proofs.Common.{Ok, Err}
 use Rattle.cipher_mode.specs.Answer.{refusal_head}
 use Rattle.cipher_mode.specs.Key.{key_number}
 use Rattle.cipher_mode.proofs.Refusals.{refuses}
@@ -24,7 +24,7 @@ sum_cut (n ∷ ns) (suc i) = omega (arith, sum_cut ns i)
 -- nothing stands against the question
 pub record Asked (c : Sm4Cipher) (file iv labels lengths : List ℕ) : Type 0 where
   pub list : bad_list labels lengths ≡ false
-  pub checks : search_check c.answer c.retired (length iv) (length file) lengths ≡ Passed
+  pub checks : search_check c.answer c.retired (length iv) (length file) lengths ≡ Ok tt
 
 -- a candidate was found: the first that opens the file; start and size point to it inside the buffer, and the part handed back is that
 -- candidate
@@ -59,8 +59,8 @@ module _ (c : Sm4Cipher) (file iv labels lengths : List ℕ) where
           → search_check c.answer c.retired (length iv) (length file) lengths ≡ s
           → P (cond bad (none_with (refusal 16)) (on_key k (checked_verdict s search)))
       by true s e f = refuse (refusal 16) (λ z. omega arith)
-      by false (Refused r) e f = refuse (under k (refusal_head r)) (refuses r).not-zero
-      by false Passed e f =
+      by false (Err r) e f = refuse (under k (refusal_head r)) (refuses r).not-zero
+      by false (Ok _) e f =
           let a : Asked c file iv labels lengths = record { list = e; checks = f } in
           by_search (opens_with c iv file) labels lengths (λ v. P (on_key k v)) (hit a) (miss a)
 

@@ -1,5 +1,5 @@
 -- Which candidate a sealed file opens under: the verdict, from the inputs alone.
-use Rattle.std.specs.Prelude.{ℕ, ◌+◌, Bool, true, false, cond, List, [], ◌∷◌, ltb, length, take, drop}
+use Rattle.std.specs.Prelude.{ℕ, ◌+◌, Bool, true, false, cond, List, [], ◌∷◌, Option, Some, None, Result, Ok, Err, ltb, length, take, drop}
 use Rattle.cipher_mode.specs.Outcome.{Head, finished, refusal, under}
 use Rattle.block.specs.Same.{same}
 use Rattle.gcm.specs.Gcm.{hash_key, J0, masked_tag, text_part, tag_part, opens_under}
@@ -8,14 +8,13 @@ use Rattle.cipher_mode.specs.declared.CipherMode.TheVariants.{Gcm}
 use Rattle.cipher_mode.specs.declared.Direction.TheVariants.{Decrypt}
 use Rattle.cipher_mode.specs.declared.Sm4Cipher.{Sm4Cipher}
 use Rattle.cipher_mode.specs.declared.answer.Refusal.TheVariants.{TooLong}
-use Rattle.cipher_mode.specs.declared.checks.Checked.{Checked}
-use Rattle.cipher_mode.specs.declared.checks.Checked.TheVariants.{Passed, Refused}
 use Rattle.cipher_mode.specs.Answer.{refusal_head}
-use Rattle.cipher_mode.specs.Checks.{refuse, and_then, key_and_iv, data_check}
+use Rattle.cipher_mode.specs.Checks.{Checked, refuse, and_then, key_and_iv, data_check}
 use Rattle.cipher_mode.specs.Key.{key_number}
 use Rattle.editions.specs.Candidates.{bad_list, any_too_long}
-use Rattle.editions.specs.declared.Ended.{Ended}
-use Rattle.editions.specs.declared.Ended.TheVariants.{Candidate, None, BadList, Refused as RefusedHere}
+use Rattle.editions.specs.declared.Candidate.{Candidate}
+use Rattle.editions.specs.declared.Unanswered.{Unanswered}
+use Rattle.editions.specs.declared.Unanswered.TheVariants.{BadList, Refused as RefusedHere}
 use Rattle.editions.specs.declared.Found.{Found}
 
 pub record Verdict : Type 0 where
@@ -54,8 +53,8 @@ search_check a retired iv file lengths =
 
 -- what was refused, or what comes next
 abbrev pub checked_verdict : Checked → Verdict → Verdict
-checked_verdict Passed next = next
-checked_verdict (Refused r) next = none_with (refusal_head r)
+checked_verdict (Ok _) next = next
+checked_verdict (Err r) next = none_with (refusal_head r)
 
 -- the test: whether the file opens under a label, by round keys, H and J0
 abbrev pub opens_file : List ℕ → ℕ → List ℕ → List ℕ → List ℕ → Bool
@@ -85,20 +84,19 @@ part_of v labels =
     (take v.size (drop v.start labels)))
     []
 
-abbrev pub ended_head : Ended → Head
-ended_head Candidate = finished 0
-ended_head None = finished 0
-ended_head BadList = refusal 16
-ended_head (RefusedHere r) = refusal_head r
+-- the verdict of what was found
+abbrev pub found_verdict : Option Candidate → Verdict
+found_verdict None = none_with (finished 0)
+found_verdict (Some c) = found_at c.place c.start c.length
 
-abbrev pub is_found : Ended → Bool
-is_found Candidate = true
-is_found None = false
-is_found BadList = false
-is_found (RefusedHere r) = false
+abbrev pub unanswered_head : Unanswered → Head
+unanswered_head BadList = refusal 16
+unanswered_head (RefusedHere r) = refusal_head r
+
+abbrev pub ended_verdict : Result (Option Candidate) Unanswered → Verdict
+ended_verdict (Ok found) = found_verdict found
+ended_verdict (Err e) = none_with (unanswered_head e)
 
 -- the verdict that an answer spells
 abbrev pub verdict_of : Found → Verdict
-verdict_of f =
-    let h = under f.key (ended_head f.ended) in
-    record { head = h; found = is_found f.ended; place = f.place; start = f.start; size = f.length }
+verdict_of f = on_key f.key (ended_verdict f.ended)

@@ -1,8 +1,8 @@
 -- The code is the definitions: H, J0, the tag, and a sealed message written in two parts.
-use Rattle.gcm.proofs.Names.{AreBytes, Gctr, List, [], ◌++◌, ◌-◌, ◌∙◌, ◌∷◌, ◌≡◌, ap, auth_blocks, bytes_of, chain, drop}
+use Rattle.gcm.proofs.Names.{AreBytes, Gctr, List, [], ◌++◌, ◌∙◌, ◌∷◌, ◌≡◌, ap, auth_blocks, bytes_of, chain, drop}
 use Rattle.gcm.proofs.Names.{encrypt-unwords, encrypt_words, gcm_next, ghash, hash_key, hashed_counter, iv-blocks, length, length-words}
 use Rattle.gcm.proofs.Names.{lit<, masked_tag, nonce_counter, number_of, over, over-behind, refl, returned, sealed, stream_mode}
-use Rattle.gcm.proofs.Names.{sub-zero, tag_of, tailed, take, take_at, text_of, unwords, unwords-number, unwords_twelve, unwords-xors}
+use Rattle.gcm.proofs.Names.{tag_of, tailed, take, take_at, text_of, unwords, unwords-number, unwords_twelve, unwords-xors}
 use Rattle.gcm.proofs.Names.{word_at, words, xors, ℕ}
 use Rattle.gcm.proofs.Parts.{length-text, length-tag}
 
@@ -30,13 +30,13 @@ masked-words mask label text s r h n l en es er =
 
 -- the text was written to the front of the output, and the tag of what stands there behind it
 pub sealed-written : (rk : List ℕ) (h : ℕ) (j label d o o₁ t tag : List ℕ) → o₁ ≡ over (text_of rk j d) o
-    → tag ≡ tag_of rk h j label (take (length d - 0) o₁) → t ≡ tag ++ drop 16 (tailed (length d) o₁)
+    → tag ≡ tag_of rk h j label (take (length d) o₁) → t ≡ tag ++ drop 16 (tailed (length d) o₁)
     → returned (length d) o₁ t ≡ over (sealed rk h j label d) o
 unfolding sealed
 sealed-written rk h j label d o o₁ t tag e g f =
     let text = text_of rk j d in
     let n = length-text rk j d in
-    let front : take (length d - 0) o₁ ≡ text = rw (sub-zero, e) (take_at text (drop (length text) o) (length d) n) in
+    let front : take (length d) o₁ ≡ text = rw e (take_at text (drop (length text) o) (length d) n) in
     let is-tag : tag ≡ tag_of rk h j label text = g ∙ ap (tag_of rk h j label) front in
     over-behind text (tag_of rk h j label text) o o₁ t (length d) n e (f ∙ rw (is-tag, length-tag rk h j label text))
 

@@ -1,7 +1,7 @@
 -- The names from outside this crate's proofs that they use, each with the module that has it.
 pub use Rattle.block.proofs.Base.{Bool, Fits, List, [], ◌*◌, ◌++◌, ◌+◌, ◌-◌, ◌/◌, ◌<◌, ◌^◌, ◌∙◌, ◌∷◌, ◌≡◌, ◌≢◌, ◌≤◌, ap, ap₂, arith, drop}
 pub use Rattle.block.proofs.Base.{drop_at, drop-drop, eq-eqb, eqb, eqb-true, false, get_or, length, length-append, length-drop}
-pub use Rattle.block.proofs.Base.{length-take-le, lit<, ltb-true, ne_eqb, rules, refl, replicate, sub-zero, suc, sym, take}
+pub use Rattle.block.proofs.Base.{length-take-le, lit<, ne_eqb, rules, refl, replicate, suc, sym, take}
 pub use Rattle.block.proofs.Base.{take-append-drop, take_at, true, w32, w8, xor_self, zero, ℕ}
 pub use Rattle.block.proofs.Convert.{bytes_of-same, length-bytes_of, number_of-lt, number_of-same}
 pub use Rattle.block.proofs.Entries.{below-drop, below_each, below-replicate}

@@ -2,12 +2,11 @@
 
 #![tactic(auto)]
 
-ghost use Rattle.std.specs.Prelude.{◌≡◌, ◌⊎◌, true, false, List, ◌++◌, ℕ, ◌+◌, ◌-◌, ◌*◌, ◌<◌, ◌≤◌, length, take, drop};
+ghost use Rattle.std.specs.Prelude.{◌≡◌, ◌⊎◌, true, false, List, ◌++◌, ℕ, ◌+◌, ◌-◌, ◌*◌, ◌<◌, ◌≤◌, length, take, drop, IfSome};
 ghost use Rattle.block.specs.Blocks.{cat};
 ghost use Rattle.block.specs.Same.{same};
 ghost use Rattle.block.specs.Wide.{value};
 ghost use Rattle.block.specs.Words.{unwords};
-ghost use Rattle.cipher.specs.Engine.{Engine};
 ghost use Rattle.counter.specs.Counter.{jumped};
 ghost use Rattle.ghash.specs.Ghash.{Hashable, blocks};
 ghost use Rattle.ghash.specs.Joined.{HalfOf};
@@ -16,16 +15,16 @@ ghost use Rattle.gcm.specs.Gcm.{hash_key, nonce_counter, hashed_counter, first_c
 ghost use Rattle.gcm.specs.Pads.{PadsFor};
 
 use block::U128;
+use cipher::Engine;
 use ghash::halves;
 use ghash::halves::Half;
 use stream::Kind;
 
 // H, the cipher of sixteen zero bytes.
-pub fn hash_key(t: &[u32], rk: [u32; 32]) -> U128
-    requires { Engine t.now }
+pub fn hash_key(engine: Engine, rk: [u32; 32]) -> U128
     ensures { value result ≡ hash_key rk }
 {
-    block::to_u128(cipher::encrypt(t, rk, [0u32; 4]))
+    block::to_u128(cipher::encrypt(engine, rk, [0u32; 4]))
 }
 
 // J0 of a 12-byte IV.
@@ -46,21 +45,23 @@ fn hashed_counter(h: U128, iv: &[u8]) -> [u32; 4]
     requires { length iv.now ≡ 16 }
     ensures { unwords result ≡ hashed_counter (value h) iv.now }
 {
-    block::from_u128(ghash::galois_hash(h, &iv[0..0], iv))
+    block::from_u128(ghash::galois_hash(h, &[], iv))
 }
 
-// J0 of an IV of twelve or of sixteen bytes.
+// J0 of an IV of twelve or of sixteen bytes. (That it is one of these stays a clause: public calls ask it of a slice.)
 pub fn first_counter(h: U128, iv: &[u8]) -> [u32; 4]
     requires { (length iv.now ≡ 12) ⊎ (length iv.now ≡ 16) }
     ensures { unwords result ≡ first_counter (value h) iv.now }
 {
     if iv.len() == 12 {
-        return nonce_counter(iv);
+        nonce_counter(iv)
+    } else {
+        hashed_counter(h, iv)
     }
-    hashed_counter(h, iv)
 }
 
-// The tag of a label and a text under a mask.
+// The tag of a label and a text under a mask. (That lengths are hashable stays a clause, here and below: public calls ask it of slices, and
+// a type of its own would only be made there to be taken apart here.)
 fn masked_tag(mask: [u32; 4], h: U128, aad: &[u8], text: &[u8]) -> [u32; 4]
     requires { Hashable (length aad.now) × Hashable (length text.now) }
     ensures { unwords result ≡ masked_tag (unwords mask) (value h) aad.now text.now }
@@ -69,23 +70,19 @@ fn masked_tag(mask: [u32; 4], h: U128, aad: &[u8], text: &[u8]) -> [u32; 4]
     block::block_xor(mask, hash)
 }
 
-fn tag(t: &[u32], rk: [u32; 32], h: U128, j0: [u32; 4], aad: &[u8], text: &[u8]) -> [u32; 4]
-    requires engine { Engine t.now }
-    requires hashable { Hashable (length aad.now) × Hashable (length text.now) }
+fn tag(engine: Engine, rk: [u32; 32], h: U128, j0: [u32; 4], aad: &[u8], text: &[u8]) -> [u32; 4]
+    requires { Hashable (length aad.now) × Hashable (length text.now) }
     ensures { unwords result ≡ tag_of rk (value h) (unwords j0) aad.now text.now }
 {
-    let mask = cipher::encrypt(t, rk, j0);
+    let mask = cipher::encrypt(engine, rk, j0);
     masked_tag(mask, h, aad, text)
 }
 
-// Whether a text of n bytes goes in one batch with the zero block and J0: where the gates are lent, and all are at most 32 blocks.
-fn in_one_batch(t: &[u32], n: usize) -> bool
+// Whether a text of n bytes goes in one batch with the zero block and J0: on the gates, where all are at most 32 blocks.
+fn in_one_batch(engine: Engine, n: usize) -> bool
     ensures { result ≡ true → n < 480 }
 {
-    if !cipher::by_gates(t) {
-        return false;
-    }
-    n < 480
+    engine == Engine::Gates && n < 480
 }
 
 // J0 and the counters behind it, m in all, behind the first block of `out`.
@@ -96,7 +93,8 @@ fn lay_behind(j0: [u32; 4], m: usize, out: &mut [u8])
     stream::few::lay_counters(false, j0, m, &mut out[16..]);
 }
 
-// The ciphers of the zero block, of J0 and of the counters behind it, for a text of n bytes: H, the mask of its tag, and what it is xored with.
+// The ciphers of the zero block, of J0 and of the counters behind it, for a text of n bytes: H, the mask of its tag, and what it is xored
+// with.
 fn pads_from(rk: [u32; 32], j0: [u32; 4], n: usize) -> [u8; 512]
     requires { n < 480 }
     ensures { PadsFor rk (unwords j0) n result }
@@ -109,50 +107,39 @@ fn pads_from(rk: [u32; 32], j0: [u32; 4], n: usize) -> [u8; 512]
     pads
 }
 
-// What a message starts with: H, J0, and, where they are ready, the pads of its text.
+// What a message starts with: H, J0, and, where they are ready, the pads of its text. (No `==` and no `Debug`: H and the pads are secret.)
 #[derive(Clone, Copy)]
 pub struct Begun {
     pub h: U128,
     pub j0: [u32; 4],
-    pub pads: [u8; 512],
-    pub ready: bool,
+    pub pads: Option<[u8; 512]>,
 }
 
 // The start of a message with a text of n bytes. J0 of a 12-byte IV does not wait for H: all blocks go in one batch.
-pub fn start(t: &[u32], rk: [u32; 32], iv: &[u8], n: usize) -> Begun
-    requires engine { Engine t.now }
-    requires fact { (length iv.now ≡ 12) ⊎ (length iv.now ≡ 16) }
+pub fn start(engine: Engine, rk: [u32; 32], iv: &[u8], n: usize) -> Begun
+    requires { (length iv.now ≡ 12) ⊎ (length iv.now ≡ 16) }
     ensures h_value { value result.h ≡ hash_key rk }
     ensures j0_value { unwords result.j0 ≡ J0 rk iv.now }
-    ensures pads_for { result.ready ≡ true → PadsFor rk (unwords result.j0) n result.pads }
+    ensures pads_for { IfSome result.pads (λ pads. PadsFor rk (unwords result.j0) n pads) }
 {
-    if !in_one_batch(t, n) {
-        let h = hash_key(t, rk);
-        return Begun {
-            h,
-            j0: first_counter(h, iv),
-            pads: [0u8; 512],
-            ready: false,
-        };
-    }
-    if iv.len() == 12 {
+    let short = in_one_batch(engine, n);
+    if short && iv.len() == 12 {
         let j0 = nonce_counter(iv);
         let pads = pads_from(rk, j0, n);
         return Begun {
             h: block::to_u128(block::split_block(&pads)),
             j0,
-            pads,
-            ready: true,
+            pads: Some(pads),
         };
     }
-    let h = hash_key(t, rk);
-    let j0 = hashed_counter(h, iv);
-    Begun {
-        h,
-        j0,
-        pads: pads_from(rk, j0, n),
-        ready: true,
-    }
+    let h = hash_key(engine, rk);
+    let j0 = first_counter(h, iv);
+    let pads = if short {
+        Some(pads_from(rk, j0, n))
+    } else {
+        None
+    };
+    Begun { h, j0, pads }
 }
 
 // Seals a short text by its pads.
@@ -165,46 +152,42 @@ fn encrypt_short(h: U128, pads: &[u8], aad: &[u8], data: &[u8], out: &mut [u8])
     let n = data.len();
     let mask = block::split_block(&pads[16..]);
     sixteen::xor_bytes(&pads[32..], data, out);
-    let mac = masked_tag(mask, h, aad, &out[0..n]);
+    let mac = masked_tag(mask, h, aad, &out[..n]);
     block::put_block(mac, &mut out[n..]);
 }
 
-// Seals `data` under the label `aad`: ciphertext, then tag. The pads count where they are ready.
+// Seals `data` under the label `aad`: ciphertext, then tag. (Engine and round keys come apart, as `cipher` and `stream` take them: the keys
+// by value are one of the nine forms, docs/DECISIONS.md.)
 pub fn encrypt(
-    t: &[u32],
+    engine: Engine,
     rk: [u32; 32],
-    h: U128,
-    j0: [u32; 4],
-    ready: bool,
-    pads: &[u8],
+    begun: &Begun,
     aad: &[u8],
     data: &[u8],
     out: &mut [u8],
 )
-    requires engine { Engine t.now }
-    requires pads_for { ready ≡ true → PadsFor rk (unwords j0) (length «data».now) pads.now }
+    requires pads_for { IfSome begun.now.pads (λ pads. PadsFor rk (unwords begun.now.j0) (length «data».now) pads) }
     requires hashable { Hashable (length aad.now) × Hashable (length «data».now) }
     requires data_in_bounds { length «data».now + 16 ≤ length out.old }
-    ensures { out.new ≡ over (sealed rk (value h) (unwords j0) aad.now «data».now) out.old }
+    ensures { out.new ≡ over (sealed rk (value begun.now.h) (unwords begun.now.j0) aad.now «data».now) out.old }
 {
-    if ready {
-        encrypt_short(h, pads, aad, data, out);
+    if let Some(pads) = &begun.pads {
+        encrypt_short(begun.h, pads, aad, data, out);
         return;
     }
     let n = data.len();
-    let first = counter::gcm_block_add_one(j0).counter;
-    stream::stream(t, rk, Kind::Gctr, first, false, data, out);
-    let mac = tag(t, rk, h, j0, aad, &out[0..n]);
+    let first = counter::gcm_block_add_one(begun.j0).counter;
+    stream::stream(engine, rk, Kind::Gctr, first, false, data, out);
+    let mac = tag(engine, rk, begun.h, begun.j0, aad, &out[..n]);
     block::put_block(mac, &mut out[n..]);
 }
 
-// The text part of a sealed message.
+// The text part of a sealed message. (That this has a tag, 16 bytes, stays a clause, here and below: public calls ask it of a slice.)
 pub fn text_part(data: &[u8]) -> &[u8]
     requires { 16 ≤ length «data».now }
     ensures { result.now ≡ text_part «data».now }
 {
-    let n = data.len() - 16;
-    &data[0..n]
+    &data[..data.len() - 16]
 }
 
 // The tag part, its last sixteen bytes.
@@ -212,8 +195,7 @@ pub fn tag_part(data: &[u8]) -> &[u8]
     requires { 16 ≤ length «data».now }
     ensures { result.now ≡ tag_part «data».now }
 {
-    let n = data.len() - 16;
-    &data[n..]
+    &data[data.len() - 16..]
 }
 
 // Whether sixteen bytes are this tag. All of them are looked at, whatever the first ones are: the differences are added up, since of an
@@ -235,13 +217,12 @@ fn has_tag(data: &[u8], expected: [u32; 4]) -> bool
 }
 
 // Whether a sealed message opens under a label.
-pub fn opens(t: &[u32], rk: [u32; 32], h: U128, j0: [u32; 4], aad: &[u8], data: &[u8]) -> bool
-    requires engine { Engine t.now }
+pub fn opens(engine: Engine, rk: [u32; 32], h: U128, j0: [u32; 4], aad: &[u8], data: &[u8]) -> bool
     requires hashable { Hashable (length aad.now) × Hashable (length «data».now) }
     requires in_bounds { 16 ≤ length «data».now }
     ensures { result ≡ opens_under rk (value h) (unwords j0) aad.now «data».now }
 {
-    has_tag(data, tag(t, rk, h, j0, aad, text_part(data)))
+    has_tag(data, tag(engine, rk, h, j0, aad, text_part(data)))
 }
 
 // The same by the cipher of J0, where the text has been hashed before: for a message that is asked about under many labels.
@@ -270,33 +251,28 @@ fn decrypt_short(h: U128, pads: &[u8], aad: &[u8], data: &[u8], out: &mut [u8]) 
     false
 }
 
-// Opens a sealed message: the text, once the tag is settled; otherwise `out` stays as it is. Returns whether it opens. The pads count
-// where they are ready.
+// Opens a sealed message: the text, once the tag is settled; otherwise `out` stays as it is. Returns whether it opens.
 pub fn decrypt(
-    t: &[u32],
+    engine: Engine,
     rk: [u32; 32],
-    h: U128,
-    j0: [u32; 4],
-    ready: bool,
-    pads: &[u8],
+    begun: &Begun,
     aad: &[u8],
     data: &[u8],
     out: &mut [u8],
 ) -> bool
-    requires engine { Engine t.now }
-    requires pads_for { ready ≡ true → PadsFor rk (unwords j0) (length «data».now - 16) pads.now }
+    requires pads_for { IfSome begun.now.pads (λ pads. PadsFor rk (unwords begun.now.j0) (length «data».now - 16) pads) }
     requires hashable { Hashable (length aad.now) × Hashable (length «data».now) }
     requires in_bounds { (16 ≤ length «data».now) × (length «data».now - 16 ≤ length out.old) }
-    ensures value { result ≡ opens_under rk (value h) (unwords j0) aad.now «data».now }
-    ensures out_after { out.new ≡ text_into rk (value h) (unwords j0) aad.now «data».now out.old }
+    ensures value { result ≡ opens_under rk (value begun.now.h) (unwords begun.now.j0) aad.now «data».now }
+    ensures out_after { out.new ≡ text_into rk (value begun.now.h) (unwords begun.now.j0) aad.now «data».now out.old }
 {
-    if ready {
-        return decrypt_short(h, pads, aad, data, out);
+    if let Some(pads) = &begun.pads {
+        return decrypt_short(begun.h, pads, aad, data, out);
     }
-    if opens(t, rk, h, j0, aad, data) {
-        let first = counter::gcm_block_add_one(j0).counter;
-        stream::stream(t, rk, Kind::Gctr, first, false, text_part(data), out);
-        return true;
+    let opened = opens(engine, rk, begun.h, begun.j0, aad, data);
+    if opened {
+        let first = counter::gcm_block_add_one(begun.j0).counter;
+        stream::stream(engine, rk, Kind::Gctr, first, false, text_part(data), out);
     }
-    false
+    opened
 }

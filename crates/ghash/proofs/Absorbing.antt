@@ -1,19 +1,9 @@
 -- The hash state over bytes: one step after the other, along the rest of a list.
-use Rattle.ghash.proofs.Names.{Absorbed, Ghash, List, PartsOf, U128, [], ◌*◌, ◌++◌, ◌-◌, ◌∙◌, ◌∷◌, ◌≡◌, ◌≤◌, ◌⊕◌, auth_blocks}
-use Rattle.ghash.proofs.Names.{block_number, blocks, drop, ghash, gmul, hash_from, length, length_block, sym, take, up_to, value, ℕ}
+use Rattle.ghash.proofs.Names.{Absorbed, Ghash, List, U128, [], ◌*◌, ◌++◌, ◌-◌, ◌∙◌, ◌∷◌, ◌≡◌, ◌≤◌, auth_blocks}
+use Rattle.ghash.proofs.Names.{block_number, blocks, drop, ghash, length, length_block, sym, take, up_to, value, ℕ}
 use Rattle.ghash.proofs.Blocks.{lent_all}
 use Rattle.ghash.proofs.Join.{hash-append}
 use Rattle.ghash.proofs.Sets.{blocks_cut}
-
--- H stays the same, and so do its parts
-pub parts_same : {h k : U128} {m : List ℕ} → k ≡ h → PartsOf h m → PartsOf k m
-parts_same e p = rw e p
-
--- one block
-pub absorbed_one : (s r : Ghash) (b m : ℕ) → r.h ≡ s.h → m ≡ value s.y ⊕ b → value r.y ≡ gmul m (value s.h)
-    → Absorbed s (b ∷ []) r
-unfolding hash_from
-absorbed_one s r b m k a e = record { key = k; hash = e ∙ rw a }
 
 pub absorbed_same : {s r : Ghash} {b c : ℕ} → Absorbed s (b ∷ []) r → b ≡ c → Absorbed s (c ∷ []) r
 absorbed_same a e = rw e at a

@@ -12,10 +12,19 @@ get_or-zeros zero i = refl
 get_or-zeros (suc n) zero = refl
 get_or-zeros (suc n) (suc i) = get_or-zeros n i
 
+-- what is filled up with zeros reads like its front
+get_or-filled : (bs zs : List ℕ) → ((i : ℕ) → ◌≡◌ {A = ℕ} (get_or zs i 0) 0) → (i : ℕ) → get_or (bs ++ zs) i 0 ≡ get_or bs i 0
+get_or-filled [] zs z i = z i
+get_or-filled (b ∷ bs) zs z zero = refl
+get_or-filled (b ∷ bs) zs z (suc i) = get_or-filled bs zs z i
+
 pub get_or-before-zeros : (bs : List ℕ) (n i : ℕ) → get_or (bs ++ replicate n 0) i 0 ≡ get_or bs i 0
-get_or-before-zeros [] n i = get_or-zeros n i
-get_or-before-zeros (b ∷ bs) n zero = refl
-get_or-before-zeros (b ∷ bs) n (suc i) = get_or-before-zeros bs n i
+get_or-before-zeros bs n = get_or-filled bs (replicate n 0) (get_or-zeros n)
+
+-- as `load_block` fills a block up
+pub words-filled : (bs : List ℕ) (n : ℕ) → words (bs ++ drop n (replicate 16 0)) ≡ words bs
+words-filled bs n =
+    words_same _ bs (λ i _. get_or-filled bs _ (λ j. get_or-drop n (replicate 16 0) j 0 ∙ get_or-zeros 16 (n + j)) i)
 
 -- the sixteen bytes of a block
 abbrev padded : List ℕ → List ℕ

@@ -1,10 +1,10 @@
 -- The names from outside this crate's proofs that they use, each with the module that has it.
 pub use lib.Seq.{ext_get_or, get_or-drop}
-pub use Rattle.block.proofs.Base.{List, get_or-eq_default, [], ◌%◌, ◌*◌, ◌++◌, ◌+◌, ◌-◌, ◌/◌, ◌<◌, ◌^◌, ◌∙◌, ◌∷◌, ◌≡◌, ◌≢◌, ◌≤◌}
+pub use Rattle.block.proofs.Base.{List, [], ◌%◌, ◌*◌, ◌++◌, ◌+◌, ◌-◌, ◌/◌, ◌<◌, ◌^◌, ◌∙◌, ◌∷◌, ◌≡◌, ◌≢◌, ◌≤◌}
 pub use Rattle.block.proofs.Base.{add-zero, ap, append_assoc, ap₂, arith, digits_div, digits_lt, digits_mod, drop, drop-append-le}
-pub use Rattle.block.proofs.Base.{drop-drop, drop_of_length-le, eq-zero-or-pos, get_or, get_or-take, inl, inr, le_of_eq, length, length-append}
-pub use Rattle.block.proofs.Base.{length-drop, length-take, length-take-le, lit<, mod-eq_of_lt, mod-lt, rules, refl}
-pub use Rattle.block.proofs.Base.{replicate, set, suc, suc-add, sym, take, take_all, take-append-drop, take-append-le, take_at, xor_comm}
+pub use Rattle.block.proofs.Base.{drop-drop, drop_of_length-le, eq-zero-or-pos, get_or, get_or-take, le_of_eq, length, length-append}
+pub use Rattle.block.proofs.Base.{length-drop, length-take, length-take-le, lit<, mod-eq_of_lt, mod-lt, mul-one, rules, refl}
+pub use Rattle.block.proofs.Base.{replicate, suc, suc-add, sym, take, take_all, take-append-drop, take-append-le, take_at, xor_comm}
 pub use Rattle.block.proofs.Base.{xor_lt, xor_self, xor_zero_r, zero, zero-add, ℕ, ⊎_elim}
 pub use Rattle.block.proofs.Convert.{length-bytes_of, number_of-append, number_of-bytes_of, number_of-lt, number_of-same}
 pub use Rattle.block.proofs.Entries.{below-append, below-drop, below_each, below-replicate, below-take}
@@ -17,9 +17,7 @@ pub use Rattle.block.specs.Words.{unwords}
 unfoldable pub use Rattle.block.specs.Words.{words}
 pub use Rattle.block.specs.Xor.{◌⊕◌, xors}
 pub use Rattle.block.specs.declared.U128.{U128}
-pub use Rattle.carryless.proofs.Filling.{both-next, lane_other, lane-same, one_more}
 pub use Rattle.carryless.specs.Lanes.{Both, lane}
-pub use Rattle.carryless.specs.Lent.{PartsOf}
 pub use Rattle.field.proofs.Bounded.{gmul-lt, gpow-lt, whole-lt}
 pub use Rattle.field.proofs.Commutes.{gmul_assoc, gmul_comm, gmul-one}
 pub use Rattle.field.proofs.Distributes.{gmul-zero, xor-gmul, zero-gmul}

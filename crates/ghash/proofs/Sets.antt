@@ -1,12 +1,12 @@
 -- Interleaved hashes, joined at the end, are one hash. For lists of one length n, and from 0 on: the hash of sums is the sum of the
 -- hashes, and the hash of multiples the multiple of the hash. So blocks Z times H to the n, with blocks C added, hash as C does from the
 -- hash of Z on.
-use Rattle.ghash.proofs.Names.{AreBytes, Element, Hashed, LaneCount, List, Starts, [], ◌*◌, ◌++◌, ◌+◌, ◌-◌, ◌<◌, ◌∙◌, ◌∷◌, ◌≡◌, ◌≤◌}
+use Rattle.ghash.proofs.Names.{AreBytes, Element, Hashed, List, Starts, [], ◌*◌, ◌++◌, ◌+◌, ◌-◌, ◌<◌, ◌∙◌, ◌∷◌, ◌≡◌, ◌≢◌, ◌≤◌}
 use Rattle.ghash.proofs.Names.{◌⊕◌, add-zero, ap, ap₂, arith, below-drop, block_count, block_number, blocks, drop, drop-drop, ghash}
-use Rattle.ghash.proofs.Names.{gmul, gmul_assoc, gmul_comm, gmul-lt, gpow, gpow-lt, hash_from, lane, length, length-drop, lit<}
-use Rattle.ghash.proofs.Names.{number_of, refl, replicate, set, suc, suc-add, sym, take, unwords, up_to, whole, words, xor-gmul}
-use Rattle.ghash.proofs.Names.{xor_lt, xor_zero_r, xors, zero, zero-add, zero-gmul, ℕ, ⊎_elim}
-use Rattle.ghash.proofs.Blocks.{length-up_to, blocks-up_to, get_or-zeros, block_of-words, lent_all}
+use Rattle.ghash.proofs.Names.{gmul, gmul_assoc, gmul_comm, gmul-lt, gpow, gpow-lt, hash_from, length, length-drop, lit<}
+use Rattle.ghash.proofs.Names.{number_of, refl, suc, suc-add, sym, take, unwords, up_to, words, xor-gmul}
+use Rattle.ghash.proofs.Names.{xor_lt, xor_zero_r, xors, zero, zero-add, zero-gmul, ℕ}
+use Rattle.ghash.proofs.Blocks.{length-up_to, blocks-up_to, block_of-words, lent_all}
 use Rattle.ghash.proofs.Join.{hash-append, hash-xors, ghash-lt, hash_from-start}
 
 pub up_to-same : (n : ℕ) (f g : ℕ → ℕ) → ((i : ℕ) → i < n → f i ≡ g i) → up_to n f ≡ up_to n g
@@ -48,12 +48,9 @@ pub lent-number : (bs : List ℕ) (k : ℕ) (w : List ℕ) → AreBytes bs → w
     → number_of (unwords w) ≡ block_number bs k
 lent-number bs k w h e = rw (e, lent_all bs (16 * k)) (block_of-words (drop (16 * k) bs) (below-drop 256 (16 * k) bs h))
 
--- y in the first of two arrays of zeros each
-pub starts_first : (n a b : ℕ) → Starts n (whole a b) (lane (set (replicate 16 0) 0 a) (set (replicate 16 0) 0 b))
-starts_first n a b = record { first = refl; others = λ k h. ap₂ whole (get_or-zeros 15 k) (get_or-zeros 15 k) }
-
-pub lanes-few : (n : ℕ) → LaneCount n → (1 ≤ n) × (n ≤ 16)
-lanes-few n h = ⊎_elim (λ (e : n ≡ 8). (omega arith, omega arith)) (λ (e : n ≡ 16). (omega arith, omega arith)) h
+-- y in the first of sixteen numbers, the others of which are 0
+pub starts_first : (n y : ℕ) (f : ℕ → ℕ) → f 0 ≡ y → ((k : ℕ) → k ≢ 0 → f k ≡ 0) → Starts n y f
+starts_first n y f e h = record { first = e; others = λ k _. h (suc k) (λ z. cc) }
 
 module _ (h : ℕ) where
   -- a first set added is hashed: at first y waits

@@ -21,9 +21,7 @@ pub struct Half {
 pub fn hash_blocks(h: U128, bytes: &[u8]) -> U128
     ensures { value result ≡ ghash (value h) (blocks bytes.now) }
 {
-    let start = Ghash::new(h);
-    let end = start.absorb_all(bytes);
-    end.y
+    Ghash::new(h).absorb_all(bytes).y
 }
 
 impl Half {
@@ -31,10 +29,9 @@ impl Half {
     pub fn of(h: U128, bytes: &[u8]) -> Half
         ensures { HalfOf (value h) (blocks bytes.now) result }
     {
-        let count = block_count(bytes.len());
         Half {
             hash: hash_blocks(h, bytes),
-            power: field::power(h, count as u64),
+            power: field::power(h, block_count(bytes.len()) as u64),
         }
     }
 
@@ -42,7 +39,7 @@ impl Half {
     pub fn after(self, first: U128) -> U128
         ensures { value result ≡ gmul (value first) (value self.power) ⊕ value self.hash }
     {
-        field::add(field::galois_mul(first, self.power), self.hash)
+        field::galois_mul(first, self.power) ^ self.hash
     }
 }
 
@@ -64,7 +61,5 @@ pub fn galois_hash_after(h: U128, label: &[u8], text: &[u8], half: Half) -> U128
     ensures { value result ≡ ghash (value h) (auth_blocks label.now text.now) }
 {
     let y = half.after(hash_blocks(h, label));
-    let texted = Ghash { h, y };
-    let end = texted.absorb_lengths(label.len(), text.len());
-    end.y
+    Ghash { h, y }.absorb_lengths(label.len(), text.len()).y
 }

@@ -5,60 +5,37 @@
 pub mod halves;
 mod interleaved;
 
-ghost use Rattle.std.specs.Prelude.{◌≡◌, [], ◌∷◌, ◌≤◌, length, get_or};
-ghost use Rattle.block.specs.Words.{word_at, words};
+ghost use Rattle.std.specs.Prelude.{◌≡◌, [], ◌∷◌, length};
+ghost use Rattle.block.specs.Words.{words};
 ghost use Rattle.block.specs.Wide.{value};
 ghost use Rattle.carryless.specs.Lent.{PartsOf};
 ghost use Rattle.ghash.specs.Ghash.{Hashable, block_of, block_count, blocks, length_block, auth_blocks, ghash};
 ghost use Rattle.ghash.specs.Absorbed.{Absorbed};
 
 use block::U128;
+use carryless::Factor;
 
-// The byte at i, or 0 past the end.
-fn byte_or_zero(s: &[u8], i: usize) -> u8
-    ensures { result ≡ get_or s.now i 0 }
-{
-    if i < s.len() { s[i] } else { 0 }
-}
-
-// The word of the four bytes from `at` on, zeros past the end.
-fn word_or_zeros(s: &[u8], at: usize) -> u32
-    requires { at ≤ 12 }
-    ensures { result ≡ word_at s.now at }
-{
-    block::combine([
-        byte_or_zero(s, at),
-        byte_or_zero(s, at + 1),
-        byte_or_zero(s, at + 2),
-        byte_or_zero(s, at + 3),
-    ])
-}
-
-// The words of the block at the front of `rest`, zeros where `rest` ends. Only a short rest is read
-// byte by byte.
+// The words of the block at the front of `rest`, zeros where `rest` ends.
 fn load_block(rest: &[u8]) -> [u32; 4]
     ensures { result ≡ words rest.now }
 {
     if rest.len() >= 16 {
         return block::split_block(rest);
     }
-    [
-        word_or_zeros(rest, 0),
-        word_or_zeros(rest, 4),
-        word_or_zeros(rest, 8),
-        word_or_zeros(rest, 12),
-    ]
+    let mut block = [0; 16];
+    block[..rest.len()].copy_from_slice(rest);
+    block::split_block(&block)
 }
 
-// How many blocks n bytes are, the last one of which may be short. Nothing is added to n, so nothing wraps.
+// How many blocks n bytes are, the last one of which may be short.
 pub fn block_count(n: usize) -> usize
     ensures { result ≡ block_count n }
 {
-    if n % 16 == 0 { n / 16 } else { n / 16 + 1 }
+    n.div_ceil(16)
 }
 
-// From how many bytes on hashes side by side are fewer instructions than one, on x86-64 with AVX2. With SSE2 they are 3 in a hundred more here, and
-// fewer from 512 on.
+// From how many bytes on hashes side by side are fewer instructions than one, on x86-64 with AVX2. With SSE2 they are 3 in a hundred more
+// here, and fewer from 512 on.
 const LANES_FROM: usize = 256;
 
 // The hash on its way: the key H, and the hash of the blocks so far.
@@ -79,38 +56,36 @@ impl Ghash {
         }
     }
 
-    // One block: (hash xor b) times H, whose parts are lent as m.
-    fn step(self, m: &[u32; 36], b: U128) -> Ghash
-        requires { PartsOf self.h m.now }
+    // One block: (hash xor b) times H.
+    #[tactic(auto, unfolding(crate::specs::Ghash::hash_from))]
+    fn step(self, h: &Factor, b: U128) -> Ghash
+        requires { PartsOf h.now × (h.now.number ≡ self.h) }
         ensures { Absorbed self (value b ∷ []) result }
     {
-        let h = self.h;
-        let sum = field::add(self.y, b);
-        let y = field::times(sum, h, m);
-        Ghash { h, y }
+        Ghash {
+            y: field::times(self.y ^ b, h),
+            ..self
+        }
     }
 
     // The block at the front of `rest`, zeros where `rest` ends.
-    fn absorb(self, m: &[u32; 36], rest: &[u8]) -> Ghash
-        requires { PartsOf self.h m.now }
+    fn absorb(self, h: &Factor, rest: &[u8]) -> Ghash
+        requires { PartsOf h.now × (h.now.number ≡ self.h) }
         ensures { Absorbed self (block_of rest.now ∷ []) result }
     {
-        let b = block::to_u128(load_block(rest));
-        self.step(m, b)
+        self.step(h, block::to_u128(load_block(rest)))
     }
 
-    // All of `bytes`, zeros to the last block's end, block by block.
+    // All of `bytes`, zeros to the last block's end, block by block. A step is handed the tail of the bytes and no chunk: it is one of the
+    // nine forms (docs/DECISIONS.md).
     fn absorb_each(self, bytes: &[u8]) -> Ghash
         ensures { Absorbed self (blocks bytes.now) result }
     {
-        let n = block_count(bytes.len());
-        let m = carryless::parts(self.h);
+        let h = carryless::parts(self.h);
         let mut state = self;
-        let mut i = 0;
-        while i < n {
+        for i in 0..block_count(bytes.len()) {
             let at = 16 * i;
-            state = state.absorb(&m, &bytes[at..]);
-            i += 1;
+            state = state.absorb(&h, &bytes[at..]);
         }
         state
     }
@@ -120,9 +95,10 @@ impl Ghash {
         ensures { Absorbed self (blocks bytes.now) result }
     {
         if bytes.len() < LANES_FROM {
-            return self.absorb_each(bytes);
+            self.absorb_each(bytes)
+        } else {
+            interleaved::absorb_lanes(self, bytes)
         }
-        interleaved::absorb_lanes(self, bytes)
     }
 
     // The length block: both lengths in bits, the label's first.
@@ -134,8 +110,7 @@ impl Ghash {
             high: 8 * label as u64,
             low: 8 * text as u64,
         };
-        let m = carryless::parts(self.h);
-        self.step(&m, b)
+        self.step(&carryless::parts(self.h), b)
     }
 }
 
@@ -144,9 +119,9 @@ pub fn galois_hash(h: U128, label: &[u8], text: &[u8]) -> U128
     requires { Hashable (length label.now) × Hashable (length text.now) }
     ensures { value result ≡ ghash (value h) (auth_blocks label.now text.now) }
 {
-    let start = Ghash::new(h);
-    let labelled = start.absorb_all(label);
-    let texted = labelled.absorb_all(text);
-    let end = texted.absorb_lengths(label.len(), text.len());
-    end.y
+    Ghash::new(h)
+        .absorb_all(label)
+        .absorb_all(text)
+        .absorb_lengths(label.len(), text.len())
+        .y
 }

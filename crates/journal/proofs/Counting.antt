@@ -1,5 +1,5 @@
 -- No count passes the place that a replay has come to, so no sum wraps.
-use Rattle.journal.proofs.Names.{Below, Difference, Entry, List, Recomputed, Report, Within, [], ◌+◌, ◌<◌, ◌∷◌, ◌≡◌, ◌≤◌, arith}
+use Rattle.journal.proofs.Names.{Below, Difference, Entry, List, None, Option, Recomputed, Some, false, first_of, refl, Report, Within, [], ◌+◌, ◌<◌, ◌∷◌, ◌≡◌, ◌≤◌, arith}
 use Rattle.journal.proofs.Names.{below_at, below-replicate, by_test, counted, get_or, length, lit<, ltb, ltb-false, mode_place, nothing}
 use Rattle.journal.proofs.Names.{one_more, set, suc, zero, ℕ}
 
@@ -24,10 +24,15 @@ pub within-nothing : Within 0 nothing
 within-nothing = search (arith, below-replicate 1 6 0 (lit< tt), below-replicate 1 32 0 (lit< tt))
 
 -- reports are equal by their fields
-pub same-report : {n n' i i' o o' : ℕ} {m m' a a' : List ℕ} {d d' : Difference} → n ≡ n' → m ≡ m' → a ≡ a' → i ≡ i' → o ≡ o' → d ≡ d'
+pub same-report : {n n' i i' o o' : ℕ} {m m' a a' : List ℕ} {d d' : Option Difference} → n ≡ n' → m ≡ m' → a ≡ a' → i ≡ i' → o ≡ o' → d ≡ d'
     → ◌≡◌ {A = Report} (record { records = n; by_mode = m; by_answer = a; bytes_in = i; bytes_out = o; first = d })
     (record { records = n'; by_mode = m'; by_answer = a'; bytes_in = i'; bytes_out = o'; first = d' })
 same-report a b c d e f = rw (a, b, c, d, e, f)
+
+-- where nothing differs, the first difference is as it was
+pub same_first : (n place : ℕ) (d : Option Difference) → first_of false n place d ≡ d
+same_first n place (Some d) = refl
+same_first n place None = refl
 
 -- one more record, of so many bytes
 pub within-counted : (e : Entry) (x : Recomputed) (place size : ℕ) (r : Report) → Within place r → 27 + length e.«data» ≤ size

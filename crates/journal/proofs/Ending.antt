@@ -1,5 +1,6 @@
 -- Which number a replay ends with exactly when: it ends as the bytes say that stand there, and in no other way.
-use Rattle.journal.proofs.Names.{AllReplayable, AreBytes, BadKeys, BadRecord, Begins, Done, Ended, Ends, Entry, Keys, List}
+use Rattle.journal.proofs.Names.{AllReplayable, AreBytes, BadKeys, BadRecord, Begins, Ends, Entry, Err, Keys, List, Ok, Some, Stop}
+use Rattle.journal.proofs.Names.{ended, place_told, refused, report_of}
 use Rattle.journal.proofs.Names.{Replayable, Replayed, Report, Sm4Cipher, TooLong, UnknownKey, Why, [], ◌++◌, ◌+◌, ◌<◌, ◌∙◌, ◌∷◌}
 use Rattle.journal.proofs.Names.{◌≡◌, add-zero, after_record, ap, append_assoc, append-nil, arith, bad_keys, below-drop, by_test}
 use Rattle.journal.proofs.Names.{counted_all, counted_under, done, drop, drop_at, false, front, keys_in, length, length-append, nothing}
@@ -25,8 +26,8 @@ nothing_there {b} e y f = clash (starts_record b) (starts_so e y) f
 
 module _ (ks : List Sm4Cipher) where
   -- nothing was replayed, and here it ends
-  ends_here : (b : List ℕ) (place : ℕ) (r : Report) (x : Replayed) → Why ks b x.ended → x.place ≡ told_place x.ended (place + 0)
-      → x.report ≡ r → Ends ks b place r x
+  ends_here : (b : List ℕ) (place : ℕ) (r : Report) (x : Replayed) → Why ks b (ended x)
+      → place_told x ≡ told_place (ended x) (place + 0) → report_of x ≡ r → Ends ks b place r x
   unfolding stored counted_all
   ends_here b place r x why told report =
       record { calls = []; rest = b; split = refl; replayable = tt; why = why; place = told; report = report }
@@ -37,9 +38,8 @@ module _ (ks : List Sm4Cipher) where
       let s = stands b e in
       record { proper = front-proper b small s; rest = after_record b; split = sym (front-written b small s) }
 
-  why_so : (b : List ℕ) (place : ℕ) → AreBytes b → 0 < length b → (e : Ended) → Refuses ks b e
-      → Why ks b e × (place ≡ told_place e (place + 0))
-  why_so b place small h Done w = absurd w
+  why_so : (b : List ℕ) (place : ℕ) → AreBytes b → 0 < length b → (e : Stop) → Refuses ks b e
+      → Why ks b (Some e) × (place ≡ told_place (Some e) (place + 0))
   why_so b place small h BadRecord s = ((h, λ e y. nothing_there e y s), omega arith)
   why_so b place small h TooLong (s, t) = (record { entry = front b; begins = begins_there b small s; holds = t }, omega arith)
   why_so b place small h UnknownKey (s, t, n) =
@@ -64,7 +64,7 @@ module _ (ks : List Sm4Cipher) where
         split = sym whole ∙ rw (← behind-size b t, ends.split, append_assoc);
         replayable = (record { proper = proper; short = p.1; known = p.2 }, ends.replayable);
         why = ends.why;
-        place = ends.place ∙ ap (λ (i : ℕ). told_place x.ended i) n;
+        place = ends.place ∙ ap (λ (i : ℕ). told_place (ended x) i) n;
         report = ends.report ∙ rw size;
       }
 
@@ -75,13 +75,8 @@ module _ (ks : List Sm4Cipher) where
       (λ b place r x p more small. goes_before b place r x small p (more (below-drop 256 (size_at b) b small)))
 
   -- the other way: what ends so is what replay ends with
-  same_end : {e e' : Ended} {p p' : ℕ} {r r' : Report} → e ≡ e' → p ≡ p' → r ≡ r'
-      → ◌≡◌ {A = Replayed} (record { ended = e; place = p; report = r }) (record { ended = e'; place = p'; report = r' })
-  same_end a b c = rw (a, b, c)
-
-  at-end : (b : List ℕ) (place : ℕ) (r : Report) (e : Ended) → AreBytes b → Why ks b e
-      → record { ended = e; place = told_place e place; report = r } ≡ replay_from ks b place r
-  at-end b place r Done small why = sym (from_end ks b place r why)
+  at-end : (b : List ℕ) (place : ℕ) (r : Report) (e : Stop) → AreBytes b → Why ks b (Some e)
+      → refused e (told_place (Some e) place) r ≡ replay_from ks b place r
   at-end b place r BadRecord small why =
       let none = by_test (starts_record b) (λ s. absurd (why.1 (front b) (begins_there b small s))) (λ s. s) in
       sym (from_refused ks b place r why.0 BadRecord none)
@@ -115,16 +110,23 @@ module _ (ks : List Sm4Cipher) where
       (one_written e (stored es ++ b) place r good
       ∙ all_written es b (place + length (written e)) (counted_under ks e place r) goods)
 
+  same_stop : (e : Stop) {p p' : ℕ} {r r' : Report} → p ≡ p' → r ≡ r' → refused e p r ≡ refused e p' r'
+  same_stop e a b = rw (a, b)
+
+  ends-rest : (p : ℕ) (s : Report) (rest : List ℕ) (x : Replayed) → AreBytes rest → Why ks rest (ended x)
+      → place_told x ≡ told_place (ended x) p → report_of x ≡ s → x ≡ replay_from ks rest p s
+  ends-rest p s rest (Ok r) small why e f = ap Ok f ∙ sym (from_end ks rest p s why)
+  ends-rest p s rest (Err x) small why e f = same_stop x.why e f ∙ at-end rest p s x.why small why
+
   ends-alone_from : (b : List ℕ) (place : ℕ) (r : Report) (x : Replayed) → AreBytes b → Ends ks b place r x → x ≡ replay_from ks b place r
   ends-alone_from b place r x small ends =
       let p = place + length (stored ends.calls) in
-      same_end {e = x.ended} refl ends.place ends.report
-      ∙ at-end ends.rest p (counted_all ks ends.calls place r) x.ended
-      (rest-bytes (stored ends.calls) ends.rest (rw ends.split at small)) ends.why
+      ends-rest p (counted_all ks ends.calls place r) ends.rest x (rest-bytes (stored ends.calls) ends.rest (rw ends.split at small))
+      ends.why ends.place ends.report
       ∙ sym (rw ends.split (all_written ends.calls ends.rest place r ends.replayable))
 
 module _ (k : Keys) (journal : List ℕ) where
-  pub bad-keys : bad_keys k ≡ true → replay k journal ≡ record { ended = BadKeys; place = 0; report = nothing }
+  pub bad-keys : bad_keys k ≡ true → replay k journal ≡ refused BadKeys 0 nothing
   unfolding replay
   bad-keys e = rw e
 

@@ -1,8 +1,8 @@
 -- What a call gives does not depend on the output that it is lent: a report, and bytes that stand over the output's front. Of data
 -- within the limits these are at most 16 bytes more than the data has.
-use Rattle.journal.proofs.Names.{BadLast, BadPadding, Bool, Cbc, CbcDone, CbcOpened, Cfb, Checked, CipherMode, Ctr, CtrKind}
+use Rattle.journal.proofs.Names.{BadLast, BadPadding, RefusedPadding, Result, Bool, Cbc, Cfb, Checked, CipherMode, Ctr, CtrKind}
 use Rattle.journal.proofs.Names.{Decrypt, Direction, EmptyCbc, Encrypt, ErrorDataLen, Gcm, Head, InvalidLastU8, InvalidPadding}
-use Rattle.journal.proofs.Names.{InvalidTag, J0, Kind, List, NoRoom, Ofb, OfbKind, Outcome, Passed, Refusal, Refused, Retired}
+use Rattle.journal.proofs.Names.{InvalidTag, J0, Kind, List, NoRoom, Ofb, OfbKind, Ok, Outcome, Refusal, Err, Retired}
 use Rattle.journal.proofs.Names.{ShortGcm, WrongBlock, WrongIv, WrongNumber, [], ◌&&◌, ◌+◌, ◌-◌, ◌<◌, ◌≡◌, ◌≤◌, ap, arith, blocks_of}
 use Rattle.journal.proofs.Names.{cbc_head, cbc_open, cbc_seal, cbc_text, cfb_kind, chain, checked, cond, ctr_came_round, data_check, eqb}
 use Rattle.journal.proofs.Names.{false, finished, gcm_head, gcm_open, gcm_round, hash_key, keyed, leaving, length, length-cbc_seal}
@@ -70,15 +70,15 @@ refusal-known WrongBlock = lit< tt
 refusal-known Ended = lit< tt
 refusal-known WrongNumber = lit< tt
 refusal-known Retired = lit< tt
-refusal-known BadPadding = lit< tt
+refusal-known RefusedPadding = lit< tt
 
 -- an opened Cbc message: its padding is no longer than it
-cbc_opened : (most : ℕ) (p : List ℕ) (u : CbcOpened) → unpadded p ≡ u → length p ≤ most → Gives most (λ o. written (cbc_head u) p o)
-cbc_opened most p (CbcDone k) e h =
+cbc_opened : (most : ℕ) (p : List ℕ) (u : Result ℕ BadPadding) → unpadded p ≡ u → length p ≤ most → Gives most (λ o. written (cbc_head u) p o)
+cbc_opened most p (Ok k) e h =
     let l = unpadded-le p k e in
     gives-written most (finished k) p (omega arith) l (omega arith)
-cbc_opened most p InvalidLastU8 e h = gives-written most (refusal 3) p (omega arith) (omega arith) (omega arith)
-cbc_opened most p InvalidPadding e h = gives-written most (refusal 15) p (omega arith) (omega arith) (omega arith)
+cbc_opened most p (Err InvalidLastU8) e h = gives-written most (refusal 3) p (omega arith) (omega arith) (omega arith)
+cbc_opened most p (Err InvalidPadding) e h = gives-written most (refusal 15) p (omega arith) (omega arith) (omega arith)
 
 -- an opened Gcm message, by what its tag says
 gcm_opened : (most : ℕ) (p : List ℕ) (n : ℕ) (t : Bool) → length p ≡ n → n ≤ most
@@ -91,7 +91,7 @@ streams most k rk s d h = let l = length-stream k rk s d in gives-done most (cha
 
 -- what is in order gives no more than the table of lengths says
 mode-gives : (most : ℕ) (m : CipherMode) (dir : Direction) (rk aad d iv : List ℕ) → wrong_iv m (length iv) ≡ false
-    → data_check dir m (length d) ≡ Passed → room_of m dir (length d) ≤ most → Gives most (λ o. mode_result m dir rk aad d iv o)
+    → data_check dir m (length d) ≡ Ok tt → room_of m dir (length d) ≤ most → Gives most (λ o. mode_result m dir rk aad d iv o)
 unfolding cbc_open gcm_open
 mode-gives most Cfb dir rk aad d iv i e r = streams most (cfb_kind dir) rk iv d r
 mode-gives most Ofb dir rk aad d iv i e r = streams most OfbKind rk iv d r
@@ -123,12 +123,12 @@ room_16 Gcm Decrypt n = omega arith
 
 -- a call by what its checks say
 pub call-gives : (most k : ℕ) (x : Checked) (m : CipherMode) (dir : Direction) (rk aad d iv : List ℕ)
-    → (x ≡ Passed → (wrong_iv m (length iv) ≡ false) × (data_check dir m (length d) ≡ Passed) × (room_of m dir (length d) ≤ most))
+    → (x ≡ Ok tt → (wrong_iv m (length iv) ≡ false) × (data_check dir m (length d) ≡ Ok tt) × (room_of m dir (length d) ≤ most))
     → Gives most (λ o. keyed k (checked x o (mode_result m dir rk aad d iv o)))
-call-gives most k Passed m dir rk aad d iv p =
+call-gives most k (Ok _) m dir rk aad d iv p =
     let in_order = p refl in
     gives-keyed most k _ (mode-gives most m dir rk aad d iv in_order.0 in_order.1 in_order.2)
-call-gives most k (Refused r) m dir rk aad d iv p =
+call-gives most k (Err r) m dir rk aad d iv p =
     gives-keyed most k _ (gives_none most (refusal_head r) (refusal-known r) (refuses r).no_size)
 
 pub bad-gives : (most : ℕ) (t : Bool) (f : List ℕ → Outcome) → (t ≡ false → Gives most f) → Gives most (λ o. refuse t 7 o (f o))

@@ -1,9 +1,10 @@
 -- The report of two journals joined is their reports added, where the first is replayed to its end: what a journal adds to a report does
 -- not depend on the report.
-use Rattle.journal.proofs.Names.{AddsUp, Bool, Difference, Entry, Keys, List, Recomputed, Replayed, Report, Sm4Cipher, Stands, []}
+use Rattle.journal.proofs.Names.{AddsUp, Bool, Difference, Entry, Keys, List, None, Option, Recomputed, Replayed, Report}
+use Rattle.journal.proofs.Names.{Sm4Cipher, Some, Stands, [], ended, report_of}
 use Rattle.journal.proofs.Names.{◌++◌, ◌+◌, ◌<◌, ◌∙◌, ◌∷◌, ◌≡◌, add_assoc, add-zero, added, ap, arith, bad_keys, behind_report}
-use Rattle.journal.proofs.Names.{by_test, cond, counted, counted_under, drop, drop-append-le, drop_of_length-le, earlier, false}
-use Rattle.journal.proofs.Names.{first_of, front, judged, key_of, keys_in, length, length-drop, mode_place, ne_eqb, nothing, number_of_end}
+use Rattle.journal.proofs.Names.{by_test, counted, counted_under, drop, drop-append-le, drop_of_length-le, earlier, false}
+use Rattle.journal.proofs.Names.{first_of, front, judged, key_of, keys_in, length, length-drop, mode_place, nothing, number_of_end}
 use Rattle.journal.proofs.Names.{one_more, recomputed, refl, replay, replay_from, replay_one, replicate, size_at, suc, sums, sym}
 use Rattle.journal.proofs.Names.{tail_is, tailed, take, take-append-le, true, zero, ℕ}
 use Rattle.journal.proofs.Lent.{recomputed-known}
@@ -25,22 +26,23 @@ sums_none [] n h = refl
 sums_none (x ∷ a) n h = rw (← h, add-zero x, sums_none a (length a) refl)
 
 -- the first difference of the two, where the record at a place of the second differs or does not
-first-added : (t : Bool) (d e : Difference) (n m p place : ℕ)
+first-added : (t : Bool) (d e : Option Difference) (n m p place : ℕ)
     → first_of t (n + m) (p + place) (earlier d n p e) ≡ earlier d n p (first_of t m place e)
-first-added t d e n m p place =
-    by_test d.found (λ f. rw f)
-    (λ f. by_test e.found (λ g. rw (f, g)) (λ g. by_test t (λ h. rw (f, g, h)) (λ h. rw (f, g, h))))
+first-added t (Some d) e n m p place = refl
+first-added t None (Some e) n m p place = refl
+first-added true None None n m p place = refl
+first-added false None None n m p place = refl
 
-pub either_way : (t : Bool) (d : Difference) → cond t d d ≡ d
-either_way true d = refl
-either_way false d = refl
+earlier_none : (d : Option Difference) (n p : ℕ) → earlier d n p None ≡ d
+earlier_none (Some d) n p = refl
+earlier_none None n p = refl
 
 module _ (p : ℕ) (r : Report) (adds : AddsUp r) where
   pub added_none : added p r nothing ≡ r
   unfolding added
   added_none =
       same-report (omega arith) (sums_none r.by_mode 6 adds.modes) (sums_none r.by_answer 32 adds.answers) (omega arith)
-      (omega arith) (either_way r.first.found r.first)
+      (omega arith) (earlier_none r.first r.records p)
 
   added-counted : (e : Entry) (x : Recomputed) (place : ℕ) (s : Report) → AddsUp s → x.number < 27
       → counted e x (p + place) (added p r s) ≡ added p r (counted e x place s)
@@ -58,7 +60,7 @@ module _ (p : ℕ) (r : Report) (adds : AddsUp r) where
       by_replay ks (λ b place s x. AddsUp s → replay_from ks b (p + place) (added p r s) ≡ behind_report p r x)
       (λ b place s e like. from_end ks b (p + place) (added p r s) e)
       (λ b place s h e w like.
-      from_refused ks b (p + place) (added p r s) h e w ∙ sym (rw (ne_eqb (number_of_end e) 0 (refuses ks b place s e w).1)))
+      from_refused ks b (p + place) (added p r s) h e w)
       (λ b place s x q more like.
       let c = key_of (front b).key ks in
       let known = recomputed-known c (front b) in
@@ -88,19 +90,19 @@ module _ (ks : List Sm4Cipher) (b : List ℕ) where
       ∙ rw (f, size_in a (a ++ b) s h, drop-append-le (size_at a) a b (size-within a s))
 
   -- a turn: the record was measured and replayed; what is to come is written as the borrow checker has it
-  pub turn_followed : (a : List ℕ) (place : ℕ) (r : Report) → 0 < length a → number_of_end (replay_one ks a place r).ended ≡ 0
+  pub turn_followed : (a : List ℕ) (place : ℕ) (r : Report) → 0 < length a → number_of_end (ended (replay_one ks a place r)) ≡ 0
       → (n : ℕ) (one : Replayed) → n ≡ size_at a → one ≡ replay_one ks a place r
-      → replay_from ks (tailed n a ++ b) (place + n) one.report ≡ replay_from ks (a ++ b) place r
+      → replay_from ks (tailed n a ++ b) (place + n) (report_of one) ≡ replay_from ks (a ++ b) place r
   turn_followed a place r some z n one size replayed =
       let p = passed ks a place r z in
       rw (tail_is a n, size, replayed, ← counts ks a place r p) (sym (first_on a place r p))
 
   -- a journal that is replayed to its end leaves its report to what is behind it
-  goes_on_lem : (a : List ℕ) (place : ℕ) (r : Report) → number_of_end (replay_from ks a place r).ended ≡ 0
-      → replay_from ks (a ++ b) place r ≡ replay_from ks b (place + length a) (replay_from ks a place r).report
+  goes_on_lem : (a : List ℕ) (place : ℕ) (r : Report) → number_of_end (ended (replay_from ks a place r)) ≡ 0
+      → replay_from ks (a ++ b) place r ≡ replay_from ks b (place + length a) (report_of (replay_from ks a place r))
   goes_on_lem =
       by_replay ks
-      (λ a place r x. number_of_end x.ended ≡ 0 → replay_from ks (a ++ b) place r ≡ replay_from ks b (place + length a) x.report)
+      (λ a place r x. number_of_end (ended x) ≡ 0 → replay_from ks (a ++ b) place r ≡ replay_from ks b (place + length a) (report_of x))
       (λ a place r h w. let none : a ≡ [] = drop_of_length-le a {i = 0} (omega arith) in rw (none, add-zero place))
       (λ a place r h e w z. absurd ((refuses ks a place r e w).1 z))
       (λ a place r x p more w.
@@ -108,15 +110,15 @@ module _ (ks : List Sm4Cipher) (b : List ℕ) where
       omega (arith, size-within a (stands a p.0), length-drop (size_at a) a) in
       first_on a place r p ∙ more w ∙ rw e)
 
-module _ (k : Keys) (a b : List ℕ) (whole : number_of_end (replay k a).ended ≡ 0) where
+module _ (k : Keys) (a b : List ℕ) (whole : number_of_end (ended (replay k a)) ≡ 0) where
   -- where it ends with 0 the keys are good
   good : bad_keys k ≡ false
   unfolding replay
   good = by_test (bad_keys k) (λ e. absurd (omega (arith, rw e at whole))) (λ e. e)
 
-  pub joined : replay k (a ++ b) ≡ behind_report (length a) (replay k a).report (replay k b)
+  pub joined : replay k (a ++ b) ≡ behind_report (length a) (report_of (replay k a)) (replay k b)
   joined =
-      let r = (replay k a).report in
+      let r = report_of (replay k a) in
       let adds = replay_adds_up k a in
       let e : 0 + length a ≡ length a + 0 = omega arith in
       from_start k (a ++ b) good ∙ goes_on_lem (keys_in k) b a 0 nothing (rw (from_start k a good) at whole)

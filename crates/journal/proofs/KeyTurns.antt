@@ -1,25 +1,37 @@
 -- The keys are looked at one after another.
-use Rattle.journal.proofs.Names.{ErrorBlockSize, Keys, List, Sm4Cipher, [], ◌+◌, ◌<◌, ◌∙◌, ◌∷◌, ◌≡◌, ◌≤◌, add-one, arith, bad_keys}
-use Rattle.journal.proofs.Names.{drop, drop-cons, false, get_or, get_or-take, key_at, keys_in, length, length-take-le, ltb-false, no_cipher}
-use Rattle.journal.proofs.Names.{refl, suc, sym, zero, ℕ}
+use Rattle.journal.proofs.Names.{Keys, List, Sm4Cipher, Some, [], ◌∙◌, ◌∷◌, ◌≡◌, ◌≤◌, any_retired, arith, bad_keys}
+use Rattle.journal.proofs.Names.{by_test, eq-eqb, false, has_number, key_found, key_number, le-ltb, length, lt-ltb}
+use Rattle.journal.proofs.Names.{ltb-false, ltb-true, ne_eqb, place_of, refl, suc, sym, ℕ}
+use Rattle.std.specs.Prelude.{is_some}
+use Rattle.std.specs.List.{list_any}
 use Rattle.journal.proofs.Cases.{or_left}
 
--- inside a list no default counts
-same-inside : (cs : List Sm4Cipher) (i : ℕ) (c d : Sm4Cipher) → i < length cs → get_or cs i c ≡ get_or cs i d
-same-inside [] i c d h = absurd (omega arith)
-same-inside (x ∷ cs) zero c d h = refl
-same-inside (x ∷ cs) (suc i) c d h = same-inside cs i c d (omega arith)
+-- the first of the keys has the number, or those behind it tell
+module _ (n : ℕ) (c : Sm4Cipher) (cs : List Sm4Cipher) where
+  pub found_here : key_number c ≡ n → key_found n (c ∷ cs) ≡ Some c
+  unfolding place_of
+  found_here h = rw (eq-eqb (key_number c) n h, lt-ltb 0 (length (c ∷ cs)) (omega arith))
 
-pub count-keys : (k : Keys) → length k.keys ≡ 8 → k.count ≤ 8 → length (keys_in k) ≡ k.count
-count-keys k l n = length-take-le k.count k.keys (omega arith)
+  same_place : (key_number c ≡ n → ⊥) → place_of n (c ∷ cs) ≡ suc (place_of n cs)
+  unfolding place_of
+  same_place h = rw (ne_eqb (key_number c) n h) (omega arith)
 
--- the key at i, and those behind it
-pub key-lent : (k : Keys) (i : ℕ) (d : Sm4Cipher) → length k.keys ≡ 8 → i < k.count → k.count ≤ 8
-    → (get_or k.keys i d ≡ key_at (keys_in k) i) × (drop i (keys_in k) ≡ get_or k.keys i d ∷ drop (i + 1) (keys_in k))
-key-lent k i d l h n =
-    let none = no_cipher ErrorBlockSize in
-    let e = same-inside k.keys i d none (omega arith) ∙ sym (get_or-take k.count k.keys i none h) in
-    (e, rw (e, add-one i) (drop-cons (keys_in k) i none (omega (arith, count-keys k l n))))
+  same_test : (key_number c ≡ n → ⊥) → has_number n (c ∷ cs) ≡ has_number n cs
+  same_test h =
+      let e = same_place h in
+      by_test (has_number n cs) (λ t. let k = ltb-true (place_of n cs) (length cs) t in lt-ltb (place_of n (c ∷ cs)) (length (c ∷ cs)) (omega arith) ∙ sym t)
+      (λ t. let k = ltb-false (place_of n cs) (length cs) t in le-ltb (place_of n (c ∷ cs)) (length (c ∷ cs)) (omega arith) ∙ sym t)
+
+  pub found_behind : (key_number c ≡ n → ⊥) → key_found n (c ∷ cs) ≡ key_found n cs
+  found_behind h = rw (same_test h, same_place h)
+
+pub found_tells : (n : ℕ) (cs : List Sm4Cipher) → is_some (key_found n cs) ≡ has_number n cs
+found_tells n cs = by_test (has_number n cs) (λ e. rw e) (λ e. rw e)
+
+pub retired-any : (cs : List Sm4Cipher) → any_retired cs ≡ list_any (λ c. c.retired) cs
+unfolding any_retired
+retired-any [] = refl
+retired-any (c ∷ cs) = rw (retired-any cs)
 
 pub few-keys : (k : Keys) → bad_keys k ≡ false → k.count ≤ 8
 unfolding bad_keys

@@ -1,8 +1,10 @@
 mod Names
 pub mod Cases
+pub mod Bytes
 pub mod Fields
 pub mod Standing
 pub mod KeyTurns
+pub mod Reading
 pub mod Given
 pub mod Lent
 pub mod Counting

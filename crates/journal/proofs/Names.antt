@@ -1,4 +1,5 @@
 -- The names from outside this crate's proofs that they use, each with the module that has it.
+pub use Rattle.std.specs.Prelude.{Err, None, Ok, Option, Result, Some}
 pub use lib.ListN.{get_or-append}
 pub use lib.Seq.{drop-length, take-suc}
 pub use Rattle.block.proofs.Base.{Bool, List, [], ◌&&◌, ◌++◌, ◌+◌, ◌-◌, ◌<◌, ◌^◌, ◌||◌, ◌∙◌, ◌∷◌, ◌≡◌, ◌≤◌, ◌⊎◌, add_assoc, add-one}
@@ -24,7 +25,7 @@ pub use Rattle.cipher_mode.proofs.Refusals.{refuses}
 pub use Rattle.cipher_mode.specs.Answer.{outcome, refusal_head}
 pub use Rattle.cipher_mode.specs.Calls.{cbc_head, cfb_kind, gcm_head, gcm_round, mode_result}
 unfoldable pub use Rattle.cipher_mode.specs.Calls.{cbc_open, gcm_open, mode_call}
-pub use Rattle.cipher_mode.specs.Checks.{checked, data_check, wrong_iv}
+pub use Rattle.cipher_mode.specs.Checks.{Checked, checked, data_check, wrong_iv}
 unfoldable pub use Rattle.cipher_mode.specs.Checks.{message_check, room_check}
 pub use Rattle.cipher_mode.specs.Key.{key_number, no_cipher}
 pub use Rattle.cipher_mode.specs.Outcome.{Head, Outcome, finished, keyed, leaving, refusal, refuse, reporting}
@@ -38,18 +39,16 @@ pub use Rattle.cipher_mode.specs.declared.Sm4Cipher.{Sm4Cipher}
 pub use Rattle.cipher_mode.specs.declared.answer.Answer.{Answer}
 pub use Rattle.cipher_mode.specs.declared.answer.Refusal.{Refusal}
 pub use Rattle.cipher_mode.specs.declared.answer.Refusal.TheVariants.{EmptyCbc, ErrorDataLen, InvalidLastU8 as BadLast}
-pub use Rattle.cipher_mode.specs.declared.answer.Refusal.TheVariants.{InvalidPadding as BadPadding, InvalidTag, NoRoom, Retired, ShortGcm}
+pub use Rattle.cipher_mode.specs.declared.answer.Refusal.TheVariants.{InvalidPadding as RefusedPadding, InvalidTag, NoRoom, Retired, ShortGcm}
 pub use Rattle.cipher_mode.specs.declared.answer.Refusal.TheVariants.{WrongBlock, WrongIv, WrongNumber}
-pub use Rattle.cipher_mode.specs.declared.checks.Checked.{Checked}
-pub use Rattle.cipher_mode.specs.declared.checks.Checked.TheVariants.{Passed, Refused}
 pub use Rattle.counter.specs.CameRound.{blocks_of, ctr_came_round}
 pub use Rattle.gcm.proofs.Parts.{length-sealed}
 pub use Rattle.gcm.proofs.Settled.{text-size}
 pub use Rattle.gcm.specs.Gcm.{J0, hash_key, opens_under, sealed, text_of, text_part}
 pub use Rattle.padding.proofs.Unpadded.{unpadded-le}
 pub use Rattle.padding.specs.Padding.{unpadded}
-pub use Rattle.padding.specs.declared.Opened.{Opened as CbcOpened}
-pub use Rattle.padding.specs.declared.Opened.TheVariants.{Done as CbcDone, InvalidLastU8, InvalidPadding}
+pub use Rattle.padding.specs.declared.BadPadding.{BadPadding}
+pub use Rattle.padding.specs.declared.BadPadding.TheVariants.{InvalidLastU8, InvalidPadding}
 pub use Rattle.stream.proofs.RoundTrip.{length-stream}
 pub use Rattle.stream.specs.Stream.{stream_mode}
 pub use Rattle.stream.specs.declared.Kind.{Kind}
@@ -59,26 +58,27 @@ pub use Rattle.journal.specs.Ends.{AllReplayable, Begins, Ends, NoneDiffers, Rep
 unfoldable pub use Rattle.journal.specs.Ends.{count_if, counted_all, sum_of}
 pub use Rattle.journal.specs.Format.{Entry, Proper, ProperPart, Stands, after_record, direction_byte, direction_of, from_data, from_iv}
 pub use Rattle.journal.specs.Format.{from_label, from_output, from_room, output_limit, part_limit, too_long}
-unfoldable pub use Rattle.journal.specs.Format.{behind, front, head, marked, middle, part, part_at, past_limit, past_part, size_at}
+unfoldable pub use Rattle.journal.specs.Format.{behind, front, head, marked, middle, part, part_at, past_limit, size_at}
 unfoldable pub use Rattle.journal.specs.Format.{starts_part, starts_record, stored, written}
 pub use Rattle.journal.specs.Joined.{earlier}
 unfoldable pub use Rattle.journal.specs.Joined.{added, behind_report, sums}
-pub use Rattle.journal.specs.KeyList.{has_number, key_at, key_of, keys_in}
+pub use Rattle.journal.specs.KeyList.{has_number, key_at, key_found, key_of, keys_in}
 unfoldable pub use Rattle.journal.specs.KeyList.{any_retired, bad_keys, number_twice, place_of}
+pub use Rattle.journal.specs.Reading.{Reads, ReadsPart, entry_of, measure}
 pub use Rattle.journal.specs.Recomputed.{Answers, answered_by, judged, recomputed, result}
 unfoldable pub use Rattle.journal.specs.Recomputed.{call_into, differs_from, lent_room}
-pub use Rattle.journal.specs.Replay.{counted_under, done, number_of_end, replay_from}
+pub use Rattle.journal.specs.Replay.{Replayed, counted_under, done, ended, number_of_end, place_told, refused, replay_from, report_of}
 unfoldable pub use Rattle.journal.specs.Replay.{replay, replay_one, replay_up_to}
 pub use Rattle.journal.specs.Reports.{AddsUp, OfRecords, Within, first_of, mode_place, nothing, one_more}
 unfoldable pub use Rattle.journal.specs.Reports.{counted, total}
-pub use Rattle.journal.specs.Writer.{answered_of, asked_of, entry_of, head_of, middle_of}
+pub use Rattle.journal.specs.Writer.{answered_of, asked_of}
 unfoldable pub use Rattle.journal.specs.Writer.{write}
-pub use Rattle.journal.specs.declared.Ended.{Ended}
-pub use Rattle.journal.specs.declared.Ended.TheVariants.{BadKeys, BadRecord, Done, TooLong, UnknownKey}
-pub use Rattle.journal.specs.declared.Replayed.{Replayed}
+pub use Rattle.journal.specs.declared.Stop.{Stop}
+pub use Rattle.journal.specs.declared.Stop.TheVariants.{BadKeys, BadRecord, TooLong, UnknownKey}
+pub use Rattle.journal.specs.declared.Stopped.{Stopped}
 pub use Rattle.journal.specs.declared.again.Answered.{Answered}
 pub use Rattle.journal.specs.declared.again.Recomputed.{Recomputed}
 pub use Rattle.journal.specs.declared.keys.Keys.{Keys}
 pub use Rattle.journal.specs.declared.report.Difference.{Difference}
 pub use Rattle.journal.specs.declared.report.Report.{Report}
-pub use Rattle.journal.specs.declared.writer.Call.{Call}
+pub use Rattle.journal.specs.declared.records.Call.{Call}

@@ -1,5 +1,6 @@
 -- Replay goes on record by record: one law by cases of the record in front, and one induction over all of them.
-use Rattle.journal.proofs.Names.{BadKeys, BadRecord, Done, Ended, Entry, Keys, List, Replayed, Report, Sm4Cipher, TooLong}
+use Rattle.journal.proofs.Names.{BadKeys, BadRecord, Entry, Keys, List, Ok, Replayed, Report, Sm4Cipher, Some, Stop, TooLong}
+use Rattle.journal.proofs.Names.{Err, Stopped, ended, refused, report_of}
 use Rattle.journal.proofs.Names.{UnknownKey, Within, ◌+◌, ◌<◌, ◌∙◌, ◌≡◌, ◌≤◌, arith, bad_keys, by_test, counted_under, done, drop}
 use Rattle.journal.proofs.Names.{eq-eqb, eqb, eqb-false, eqb-true, false, front, has_number, key_of, keys_in, length, length-drop}
 use Rattle.journal.proofs.Names.{ne_eqb, nothing, number_of_end, refl, replay, replay_from, replay_one, replay_up_to, size_at, starts_record}
@@ -8,21 +9,17 @@ use Rattle.journal.proofs.Standing.{stands, size-within, data-within}
 use Rattle.journal.proofs.Lent.{recomputed-size}
 use Rattle.journal.proofs.Counting.{within-counted}
 
-abbrev pub refused : Ended → ℕ → Report → Replayed
-refused e place r = record { ended = e; place = place; report = r }
-
 -- the record at the front of b is counted; or it is refused, and why
 abbrev pub Passes : List Sm4Cipher → List ℕ → Type 0
 Passes ks b = (starts_record b ≡ true) × (too_long (front b) ≡ false) × (has_number (front b).key ks ≡ true)
 
-abbrev pub Refuses : List Sm4Cipher → List ℕ → Ended → Type 0
-Refuses ks b Done = ⊥
+abbrev pub Refuses : List Sm4Cipher → List ℕ → Stop → Type 0
 Refuses ks b BadRecord = starts_record b ≡ false
 Refuses ks b TooLong = (starts_record b ≡ true) × (too_long (front b) ≡ true)
 Refuses ks b UnknownKey = (starts_record b ≡ true) × (too_long (front b) ≡ false) × (has_number (front b).key ks ≡ false)
 Refuses ks b BadKeys = ⊥
 
-pub by_one : {A : Type 0} (ks : List Sm4Cipher) (b : List ℕ) → ((e : Ended) → Refuses ks b e → A) → (Passes ks b → A) → A
+pub by_one : {A : Type 0} (ks : List Sm4Cipher) (b : List ℕ) → ((e : Stop) → Refuses ks b e → A) → (Passes ks b → A) → A
 by_one ks b stop on =
     by_test (starts_record b)
     (λ s.
@@ -35,9 +32,8 @@ behind_less ks b p = omega (arith, size-within b (stands b p.0), data-within b (
 
 module _ (ks : List Sm4Cipher) (b : List ℕ) (place : ℕ) (r : Report) where
   -- a refusal has a number
-  pub refuses : (e : Ended) → Refuses ks b e → (replay_one ks b place r ≡ refused e place r) × (number_of_end e ≡ 0 → ⊥)
+  pub refuses : (e : Stop) → Refuses ks b e → (replay_one ks b place r ≡ refused e place r) × (number_of_end (Some e) ≡ 0 → ⊥)
   unfolding replay_one
-  refuses Done w = absurd w
   refuses BadRecord s = (rw s, λ z. omega arith)
   refuses TooLong (s, t) = (rw (s, t), λ z. omega arith)
   refuses UnknownKey (s, t, n) = (rw (s, t, n), λ z. omega arith)
@@ -48,7 +44,7 @@ module _ (ks : List Sm4Cipher) (b : List ℕ) (place : ℕ) (r : Report) where
   counts (s, t, n) = rw (s, t, n)
 
   -- a record that was not refused was counted
-  pub passed : number_of_end (replay_one ks b place r).ended ≡ 0 → Passes ks b
+  pub passed : number_of_end (ended (replay_one ks b place r)) ≡ 0 → Passes ks b
   passed z = by_one ks b (λ e w. let f = refuses e w in absurd (f.1 (rw f.0 at z))) (λ p. p)
 
 upto_end : (n : ℕ) (ks : List Sm4Cipher) (b : List ℕ) (place : ℕ) (r : Report) → length b ≡ 0 → replay_up_to n ks b place r ≡ done r
@@ -62,9 +58,8 @@ upto_step : (n m : ℕ) (ks : List Sm4Cipher) (b : List ℕ) (place : ℕ) (r : 
     → replay_up_to (suc n) ks b place r ≡ replay_up_to (suc m) ks b place r
 unfolding replay_up_to
 upto_step n m ks b place r more =
-    let x = replay_one ks b place r in
-    by_test (eqb (number_of_end x.ended) 0)
-    (λ e. rw (e, more x.report (passed ks b place r (eqb-true (number_of_end x.ended) 0 e)))) (λ e. rw e)
+    by_one ks b (λ e w. rw (refuses ks b place r e w).0)
+    (λ p. rw (← counts ks b place r p, more (counted_under ks (front b) place r) p))
 
 -- as many as there are bytes is enough
 enough : (n m : ℕ) (ks : List Sm4Cipher) (b : List ℕ) (place : ℕ) (r : Report) → length b ≤ n → length b ≤ m
@@ -84,15 +79,13 @@ module _ (ks : List Sm4Cipher) (b : List ℕ) (place : ℕ) (r : Report) where
   pub from_end : length b ≡ 0 → replay_from ks b place r ≡ done r
   from_end h = upto_end (length b) ks b place r h
 
-  pub from_stop : 0 < length b → (number_of_end (replay_one ks b place r).ended ≡ 0 → ⊥) → replay_from ks b place r ≡ replay_one ks b place r
+  pub from_refused : 0 < length b → (e : Stop) → Refuses ks b e → replay_from ks b place r ≡ refused e place r
   unfolding replay_up_to
-  from_stop h e =
-      one_more ∙ rw (ne_eqb (length b) 0 (λ z. omega arith), ne_eqb (number_of_end (replay_one ks b place r).ended) 0 e)
+  from_refused h e w = one_more ∙ rw (ne_eqb (length b) 0 (λ z. omega arith), (refuses ks b place r e w).0)
 
-  pub from_refused : 0 < length b → (e : Ended) → Refuses ks b e → replay_from ks b place r ≡ refused e place r
-  from_refused h e w =
-      let f = refuses ks b place r e w in
-      from_stop h (λ z. f.1 (rw f.0 at z)) ∙ f.0
+  pub from_stopped : 0 < length b → (x : Stopped) → replay_one ks b place r ≡ Err x → replay_from ks b place r ≡ Err x
+  unfolding replay_up_to
+  from_stopped h x e = one_more ∙ rw (ne_eqb (length b) 0 (λ z. omega arith), e)
 
   pub from_on : Passes ks b
       → replay_from ks b place r ≡ replay_from ks (drop (size_at b) b) (place + size_at b) (counted_under ks (front b) place r)
@@ -104,21 +97,27 @@ module _ (ks : List Sm4Cipher) (b : List ℕ) (place : ℕ) (r : Report) where
       ∙ rw (ne_eqb (length b) 0 (λ z. omega arith), ← counts ks b place r p)
       (enough (length b) (length d) ks d (place + size_at b) (counted_under ks (front b) place r) (omega arith) (omega arith))
 
-  -- a turn: the record in front was measured and replayed
-  module _ (n : ℕ) (one : Replayed) (size : n ≡ size_at b) (replayed : one ≡ replay_one ks b place r) (p : Passes ks b) where
-    pub turn_within : Within place r → Within (place + n) one.report
+  -- a turn: the record in front was replayed
+  module _ (more : Report) (replayed : replay_one ks b place r ≡ Ok more) where
+    pub turn_passes : Passes ks b
+    turn_passes = passed ks b place r (rw replayed refl)
+
+    turn_counts : more ≡ counted_under ks (front b) place r
+    turn_counts = let e : Ok more ≡ done (counted_under ks (front b) place r) = sym replayed ∙ sym (counts ks b place r turn_passes) in cc
+
+    pub turn_within : Within place r → Within (place + size_at b) more
     turn_within w =
-        rw (size, replayed, ← counts ks b place r p)
-        (within-counted (front b) _ place (size_at b) r w (data-within b (stands b p.0))
+        rw turn_counts
+        (within-counted (front b) _ place (size_at b) r w (data-within b (stands b turn_passes.0))
         (recomputed-size (key_of (front b).key ks) (front b)))
 
-    pub turn_from : replay_from ks (drop n b) (place + n) one.report ≡ replay_from ks b place r
-    turn_from = rw (size, replayed, ← counts ks b place r p) (sym (from_on p))
+    pub turn_from : replay_from ks (drop (size_at b) b) (place + size_at b) more ≡ replay_from ks b place r
+    turn_from = rw turn_counts (sym (from_on turn_passes))
 
 -- What holds at the end of a journal, and where replay stops, and goes on from what is behind a record to the record, holds of all replays.
 module _ (ks : List Sm4Cipher) (P : List ℕ → ℕ → Report → Replayed → Type 0)
     (end : (b : List ℕ) (place : ℕ) (r : Report) → length b ≡ 0 → P b place r (done r))
-    (stop : (b : List ℕ) (place : ℕ) (r : Report) → 0 < length b → (e : Ended) → Refuses ks b e → P b place r (refused e place r))
+    (stop : (b : List ℕ) (place : ℕ) (r : Report) → 0 < length b → (e : Stop) → Refuses ks b e → P b place r (refused e place r))
     (on : (b : List ℕ) (place : ℕ) (r : Report) (x : Replayed) → Passes ks b
     → P (drop (size_at b) b) (place + size_at b) (counted_under ks (front b) place r) x → P b place r x) where
   up_to : (n : ℕ) (b : List ℕ) (place : ℕ) (r : Report) → length b < n → P b place r (replay_from ks b place r)
@@ -141,10 +140,10 @@ from_start k journal good = rw good
 -- So does what goes on with each record that is counted, of every report.
 pub every_report : (P : Report → Type 0)
     → ((ks : List Sm4Cipher) (e : Entry) (place : ℕ) (r : Report) → P r → P (counted_under ks e place r)) → P nothing
-    → (k : Keys) (journal : List ℕ) → P (replay k journal).report
+    → (k : Keys) (journal : List ℕ) → P (report_of (replay k journal))
 unfolding replay
 every_report P counted p k journal =
     by_test (bad_keys k) (λ e. rw e p)
     (λ e. rw (from_start k journal e)
-    (by_replay (keys_in k) (λ b place r x. P r → P x.report) (λ b place r z q. q) (λ b place r z s w q. q)
+    (by_replay (keys_in k) (λ b place r x. P r → P (report_of x)) (λ b place r z q. q) (λ b place r z s w q. q)
     (λ b place r x z more q. more (counted (keys_in k) (front b) place r q)) journal 0 nothing p))

@@ -1,9 +1,9 @@
 -- What is known of a record that stands whole: its parts stand whole one behind the other, they make up its size, and what is read of it is
 -- told by the bytes of its fields alone.
-use Rattle.journal.proofs.Names.{Entry, List, Stands, [], ◌+◌, ◌-◌, ◌<◌, ◌∙◌, ◌∷◌, ◌≡◌, ◌≤◌, after_record, and_left, and_right, ap}
+use Rattle.journal.proofs.Names.{Entry, List, Stands, [], ◌+◌, ◌-◌, ◌∙◌, ◌∷◌, ◌≡◌, ◌≤◌, after_record, and_left, and_right, ap}
 use Rattle.journal.proofs.Names.{arith, behind, by_test, direction_of, drop, drop_at, false, from_data, from_iv, from_label, from_output}
 use Rattle.journal.proofs.Names.{from_room, front, get_or, get_or-take, le-leb, leb, leb-true, length, length-append, length-drop}
-use Rattle.journal.proofs.Names.{length-take-le, lit<, marked, number_of, part_at, past_part, size_at, starts_part, starts_record, sym}
+use Rattle.journal.proofs.Names.{length-take-le, lit<, marked, number_of, part_at, size_at, starts_part, starts_record, sym}
 use Rattle.journal.proofs.Names.{take, take-add, take_at, true, word_at, ℕ}
 use Rattle.journal.proofs.Fields.{Field, fixed, counted, Fit, fields, joined, past, sizes_are, joined_fields, row_in}
 
@@ -74,10 +74,6 @@ module _ (b : List ℕ) where
   front_read (a, (l, (d, (i, (m, (o, z)))))) =
       rw (get_or-take 6 b 2 0 (lit< tt)) (simp (get_or-take, part-of-field, lit<, tt {0}))
 
-  size_none : starts_record b ≡ false → size_at b ≡ 0
-  unfolding size_at
-  size_none e = rw e
-
   module _ (s : Stands b) where
     pub size_is : size_at b ≡ length (joined (fields row_of b))
     unfolding size_at behind
@@ -109,38 +105,8 @@ module _ (b : List ℕ) where
     front_bytes =
         ap (take (size_at b)) (sym (joined_fields row_of b)) ∙ take_at (joined (fields row_of b)) (past row_of b) (size_at b) (sym size_is)
 
-  -- a size of 0 tells that none stands, and another that one does
-  pub size-zero : size_at b ≡ 0 → starts_record b ≡ false
-  size-zero z = by_test (starts_record b) (λ f. absurd (omega (arith, size-sum (stands f)))) (λ f. f)
-
-  pub size-some : (size_at b ≡ 0 → ⊥) → starts_record b ≡ true
-  size-some z = by_test (starts_record b) (λ f. f) (λ f. absurd (z (size_none f)))
-
-  pub not-standing : (Stands b → ⊥) → 0 ≡ size_at b
-  not-standing z = by_test (starts_record b) (λ f. absurd (z (stands f))) (λ f. sym (size_none f))
-
--- a record is measured from part to part: what is behind its third part, if all three stand whole
-module _ (t : List ℕ) (h : 0 < length (past_part t)) where
-  past-some : (starts_part t ≡ true) × (past_part t ≡ behind t) × (0 < length t)
-  unfolding past_part
-  past-some =
-      by_test (starts_part t) (λ e. (e, rw e, omega (arith, part-fits t e))) (λ e. absurd (omega (arith, rw e at h)))
-
-module _ (b : List ℕ) where
-  abbrev pub measured : List ℕ
-  measured = past_part (past_part (past_part (from_label b)))
-
-  pub measured_is : Stands b → measured ≡ from_room b
-  unfolding past_part
-  measured_is s = rw (s.label, s.«data», s.iv)
-
-  pub measured_stands : 6 ≤ length b → marked b ≡ true → 5 ≤ length measured → starts_part (drop 5 measured) ≡ true → Stands b
-  measured_stands h m l o =
-      let i = past-some (past_part (past_part (from_label b))) (omega arith) in
-      let d = past-some (past_part (from_label b)) i.2 in
-      let a = past-some (from_label b) d.2 in
-      let e : measured ≡ from_room b = cc in
-      record { long = h; mark = m; label = a.0; «data» = cc; iv = cc; middle = rw (← e) l; output = cc }
+  pub not-standing : (Stands b → ⊥) → starts_record b ≡ false
+  not-standing z = by_test (starts_record b) (λ f. absurd (z (stands f))) (λ f. f)
 
 -- Bytes that start with those of a record start with the record, whatever is behind it.
 module _ (b t : List ℕ) (s : Stands b) (h : take (size_at b) t ≡ take (size_at b) b) where

@@ -1,8 +1,7 @@
 -- Calls by answer, and calls by mode, sum to the records; a first difference is one of them.
-use Rattle.journal.proofs.Names.{AddsUp, Bool, Difference, Entry, Keys, List, OfRecords, Report, Sm4Cipher, [], ◌+◌, ◌<◌, ◌∙◌, ◌∷◌}
-use Rattle.journal.proofs.Names.{◌≡◌, ap, arith, by_test, counted, counted_under, differs, false, first_of, get_or, key_of, length}
+use Rattle.journal.proofs.Names.{AddsUp, Bool, Difference, Entry, Keys, List, None, OfRecords, Option, Report, Sm4Cipher, Some, report_of, [], ◌+◌, ◌<◌, ◌∙◌, ◌∷◌}
+use Rattle.journal.proofs.Names.{◌≡◌, ap, arith, counted, counted_under, differs, false, first_of, get_or, key_of, length}
 use Rattle.journal.proofs.Names.{length-set, mode_place, nothing, one_more, recomputed, refl, replay, set, suc, total, true, zero, ℕ}
-use Rattle.journal.proofs.Cases.{clash}
 use Rattle.journal.proofs.Lent.{recomputed-known}
 use Rattle.journal.proofs.Counting.{mode-below_6}
 use Rattle.journal.proofs.Replaying.{every_report}
@@ -34,21 +33,17 @@ adds_counted ks e place r a =
     }
 
 -- However a replay ends, the calls by answer sum to the records replayed, and so do the calls by mode.
-pub replay_adds_up : (k : Keys) (journal : List ℕ) → AddsUp (replay k journal).report
+pub replay_adds_up : (k : Keys) (journal : List ℕ) → AddsUp (report_of (replay k journal))
 replay_adds_up = every_report AddsUp adds_counted adds_nothing
 
--- A first difference is one of the records replayed; where there is none, nothing is said of it.
-first_counted : (t : Bool) (n place : ℕ) (d : Difference) → OfRecords n d → OfRecords (n + 1) (first_of t n place d)
-first_counted t n place d a =
-    by_test d.found
-    (λ e. let h = a.inside e in rw e (record { inside = λ z. omega arith; nowhere = λ z. absurd (clash true refl z) }))
-    (λ e.
-    by_test t (λ f. rw (e, f) (record { inside = λ z. omega arith; nowhere = λ z. absurd (clash true refl z) }))
-    (λ f. rw (e, f) (record { inside = λ z. absurd (clash false z refl); nowhere = λ z. a.nowhere e })))
+-- A first difference is one of the records replayed.
+first_counted : (t : Bool) (n place : ℕ) (d : Option Difference) → OfRecords n d → OfRecords (n + 1) (first_of t n place d)
+first_counted t n place (Some d) a = omega arith
+first_counted true n place None a = omega arith
+first_counted false n place None a = tt
 
-pub first_replayed : (k : Keys) (journal : List ℕ) → OfRecords (replay k journal).report.records (replay k journal).report.first
+pub first_replayed : (k : Keys) (journal : List ℕ)
+    → OfRecords (report_of (replay k journal)).records (report_of (replay k journal)).first
 unfolding counted
 first_replayed =
-    every_report (λ r. OfRecords r.records r.first)
-    (λ ks e place r a. first_counted (differs ks e) r.records place r.first a)
-    (record { inside = λ z. absurd (clash false z refl); nowhere = λ z. (refl, refl) })
+    every_report (λ r. OfRecords r.records r.first) (λ ks e place r a. first_counted (differs ks e) r.records place r.first a) tt

@@ -1,5 +1,5 @@
 -- The report has the exact totals of the calls that were replayed.
-use Rattle.journal.proofs.Names.{AddsUp, Ends, Entry, List, Replayed, Report, Sm4Cipher, Totals, [], ◌+◌, ◌<◌, ◌∷◌, ◌≡◌, answer_now}
+use Rattle.journal.proofs.Names.{AddsUp, Ends, Entry, List, Replayed, report_of, Report, Sm4Cipher, Totals, [], ◌+◌, ◌<◌, ◌∷◌, ◌≡◌, answer_now}
 use Rattle.journal.proofs.Names.{arith, by_test, cond, count_if, counted, counted_all, counted_under, eqb, eqb-false, eqb-true, get_or}
 use Rattle.journal.proofs.Names.{get_or-set_other, get_or-set_same, key_of, length, mode_place, nothing, one_more, refl, replicate, suc}
 use Rattle.journal.proofs.Names.{sum_of, sym, written, zero, ℕ}
@@ -43,7 +43,7 @@ module _ (ks : List Sm4Cipher) where
       }
 
 -- However a replay ends, its report has the totals of the calls that were replayed.
-pub totals_told : (ks : List Sm4Cipher) (b : List ℕ) (x : Replayed) (ends : Ends ks b 0 nothing x) → Totals ks ends.calls x.report
+pub totals_told : (ks : List Sm4Cipher) (b : List ℕ) (x : Replayed) (ends : Ends ks b 0 nothing x) → Totals ks ends.calls (report_of x)
 totals_told ks b x ends =
     let t = totals_from ks ends.calls 0 nothing adds_nothing in
     rw ends.report

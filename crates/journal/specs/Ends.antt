@@ -1,17 +1,16 @@
 -- What a journal has to hold so that its replay ends in one way and no other: the records that were replayed, one behind the other, and
 -- what stands behind them.
-use Rattle.std.specs.Prelude.{ℕ, ◌+◌, ◌<◌, ◌≡◌, Bool, true, false, cond, List, [], ◌∷◌, ◌++◌, eqb, length, get_or}
+use Rattle.std.specs.Prelude.{ℕ, ◌+◌, ◌<◌, ◌≡◌, Bool, true, false, cond, Option, Some, None, List, [], ◌∷◌, ◌++◌, eqb, length, get_or}
 use Rattle.cipher_mode.specs.Outcome.{Outcome}
 use Rattle.cipher_mode.specs.declared.Sm4Cipher.{Sm4Cipher}
 use Rattle.journal.specs.Format.{Entry, Proper, written, stored, too_long}
 use Rattle.journal.specs.KeyList.{has_number, key_of}
 use Rattle.journal.specs.Recomputed.{recomputed, judged}
 use Rattle.journal.specs.Reports.{mode_place}
-use Rattle.journal.specs.Replay.{counted_under}
+use Rattle.journal.specs.Replay.{Replayed, ended, place_told, report_of, counted_under}
 use Rattle.journal.specs.declared.report.Report.{Report}
-use Rattle.journal.specs.declared.Ended.{Ended}
-use Rattle.journal.specs.declared.Ended.TheVariants.{Done, BadRecord, TooLong, UnknownKey, BadKeys}
-use Rattle.journal.specs.declared.Replayed.{Replayed}
+use Rattle.journal.specs.declared.Stop.{Stop}
+use Rattle.journal.specs.declared.Stop.TheVariants.{BadRecord, TooLong, UnknownKey, BadKeys}
 
 -- a call that can be replayed: its parts within the limits, and its key among those that are lent
 pub record Replayable (ks : List Sm4Cipher) (e : Entry) : Type 0 where
@@ -41,20 +40,20 @@ pub record BeginsWith (P : Entry → Type 0) (b : List ℕ) : Type 0 where
   pub holds : P entry
 
 -- why replay ends before the bytes b
-abbrev pub Why : List Sm4Cipher → List ℕ → Ended → Type 0
-Why ks b Done = length b ≡ 0
-Why ks b BadRecord = (0 < length b) × ((e : Entry) → Begins b e → ⊥)
-Why ks b TooLong = BeginsWith (λ e. too_long e ≡ true) b
-Why ks b UnknownKey = BeginsWith (λ e. (too_long e ≡ false) × (has_number e.key ks ≡ false)) b
-Why ks b BadKeys = ⊥
+abbrev pub Why : List Sm4Cipher → List ℕ → Option Stop → Type 0
+Why ks b None = length b ≡ 0
+Why ks b (Some BadRecord) = (0 < length b) × ((e : Entry) → Begins b e → ⊥)
+Why ks b (Some TooLong) = BeginsWith (λ e. too_long e ≡ true) b
+Why ks b (Some UnknownKey) = BeginsWith (λ e. (too_long e ≡ false) × (has_number e.key ks ≡ false)) b
+Why ks b (Some BadKeys) = ⊥
 
 -- the place that is told: that of the record that was refused, 0 where none was
-abbrev pub told_place : Ended → ℕ → ℕ
-told_place Done place = 0
-told_place BadRecord place = place
-told_place TooLong place = place
-told_place UnknownKey place = place
-told_place BadKeys place = 0
+abbrev pub told_place : Option Stop → ℕ → ℕ
+told_place None place = 0
+told_place (Some BadRecord) place = place
+told_place (Some TooLong) place = place
+told_place (Some UnknownKey) place = place
+told_place (Some BadKeys) place = 0
 
 -- the bytes b, which stand at a place of the journal, with the report r of what is before them, are replayed to the end x
 pub record Ends (ks : List Sm4Cipher) (b : List ℕ) (from : ℕ) (r : Report) (x : Replayed) : Type 0 where
@@ -62,9 +61,9 @@ pub record Ends (ks : List Sm4Cipher) (b : List ℕ) (from : ℕ) (r : Report) (
   pub rest : List ℕ
   pub split : b ≡ stored calls ++ rest
   pub replayable : AllReplayable ks calls
-  pub why : Why ks rest x.ended
-  pub place : x.place ≡ told_place x.ended (from + length (stored calls))
-  pub report : x.report ≡ counted_all ks calls from r
+  pub why : Why ks rest (ended x)
+  pub place : place_told x ≡ told_place (ended x) (from + length (stored calls))
+  pub report : report_of x ≡ counted_all ks calls from r
 
 -- what a call answers now
 abbrev pub answer_now : List Sm4Cipher → Entry → Outcome

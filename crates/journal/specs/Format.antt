@@ -70,10 +70,6 @@ part_at b = take (word_at b 0) (drop 4 b)
 unfoldable pub behind : List ℕ → List ℕ
 behind b = drop (4 + word_at b 0) b
 
--- the same where a part stands whole, otherwise nothing
-unfoldable pub past_part : List ℕ → List ℕ
-past_part b = cond (starts_part b) (behind b) []
-
 -- a record b from its label on, from its data on, and so forth
 abbrev pub from_label : List ℕ → List ℕ
 from_label b = drop 6 b

@@ -1,9 +1,8 @@
 -- The reports of two journals added, as the report of the two joined: the second's records come behind the first's.
-use Rattle.std.specs.Prelude.{ℕ, ◌+◌, true, cond, List, [], ◌∷◌, eqb}
-use Rattle.journal.specs.Replay.{number_of_end}
+use Rattle.std.specs.Prelude.{ℕ, ◌+◌, Option, Some, None, Ok, Err, List, [], ◌∷◌}
+use Rattle.journal.specs.Replay.{Replayed, done, refused}
 use Rattle.journal.specs.declared.report.Difference.{Difference}
 use Rattle.journal.specs.declared.report.Report.{Report}
-use Rattle.journal.specs.declared.Replayed.{Replayed}
 
 -- counts, place by place
 unfoldable pub sums : List ℕ → List ℕ → List ℕ
@@ -12,10 +11,10 @@ sums (x ∷ a) [] = []
 sums (x ∷ a) (y ∷ b) = (x + y) ∷ sums a b
 
 -- the first's difference, or the second's, behind so many records and bytes
-abbrev pub earlier : Difference → ℕ → ℕ → Difference → Difference
-earlier d records size e =
-    cond d.found d
-    (cond e.found (record { found = true; index = records + e.index; place = size + e.place }) d)
+abbrev pub earlier : Option Difference → ℕ → ℕ → Option Difference → Option Difference
+earlier (Some d) records size e = Some d
+earlier None records size (Some e) = Some (record { index = records + e.index; place = size + e.place })
+earlier None records size None = None
 
 -- the report s behind the report r of a journal of so many bytes
 unfoldable pub added : ℕ → Report → Report → Report
@@ -31,9 +30,5 @@ added size r s =
 
 -- how the two end, where the first was replayed to its end: as the second does, at a place that is counted from the first's start
 unfoldable pub behind_report : ℕ → Report → Replayed → Replayed
-behind_report size r x =
-    record {
-      ended = x.ended;
-      place = cond (eqb (number_of_end x.ended) 0) 0 (size + x.place);
-      report = added size r x.report;
-    }
+behind_report size r (Ok s) = done (added size r s)
+behind_report size r (Err x) = refused x.why (size + x.place) (added size r x.report)

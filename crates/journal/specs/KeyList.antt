@@ -1,6 +1,7 @@
 -- The keys of a replay. A record that is no key is looked at as any other: its number is 0, and every call on it answers as its
 -- set-up did.
 use Rattle.std.specs.Prelude.{ℕ, ◌+◌, Bool, false, ◌||◌, cond, List, [], ◌∷◌, ltb, eqb, length, get_or, take}
+use Rattle.std.specs.Prelude.{Option, Some, None}
 use Rattle.cipher_mode.specs.declared.KeyAnswer.TheVariants.{ErrorBlockSize}
 use Rattle.cipher_mode.specs.declared.Sm4Cipher.{Sm4Cipher}
 use Rattle.cipher_mode.specs.Key.{no_cipher, key_number}
@@ -24,6 +25,10 @@ key_at cs i = get_or cs i (no_cipher ErrorBlockSize)
 -- the key that has a number
 abbrev pub key_of : ℕ → List Sm4Cipher → Sm4Cipher
 key_of n cs = key_at cs (place_of n cs)
+
+-- the same, if one has it
+abbrev pub key_found : ℕ → List Sm4Cipher → Option Sm4Cipher
+key_found n cs = cond (has_number n cs) (Some (key_of n cs)) None
 
 unfoldable pub any_retired : List Sm4Cipher → Bool
 any_retired [] = false

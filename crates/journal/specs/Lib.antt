@@ -1,4 +1,5 @@
 pub mod Format
+pub mod Reading
 pub mod KeyList
 pub mod Recomputed
 pub mod Reports

@@ -1,5 +1,6 @@
 -- The report of a replay, and what one more record makes of it.
-use Rattle.std.specs.Prelude.{ℕ, suc, ◌+◌, ◌≤◌, ◌<◌, ◌≡◌, Bool, true, false, cond, List, [], ◌∷◌, ltb, length, get_or, set, replicate}
+use Rattle.std.specs.Prelude.{ℕ, suc, ◌+◌, ◌≤◌, ◌<◌, ◌≡◌, Bool, cond, List, [], ◌∷◌, ltb, length, get_or, set, replicate}
+use Rattle.std.specs.Prelude.{Option, Some, None}
 use Rattle.block.specs.Below.{Below}
 use Rattle.journal.specs.Format.{Entry}
 use Rattle.journal.specs.declared.again.Recomputed.{Recomputed}
@@ -15,7 +16,7 @@ nothing =
       by_answer = replicate 32 0;
       bytes_in = 0;
       bytes_out = 0;
-      first = record { found = false; index = 0; place = 0 };
+      first = None;
     }
 
 -- one more at place i
@@ -27,8 +28,9 @@ abbrev pub mode_place : ℕ → ℕ
 mode_place mode = cond (ltb 4 mode) 5 mode
 
 -- the first difference, where the record at a place, with so many before it, differs or does not
-abbrev pub first_of : Bool → ℕ → ℕ → Difference → Difference
-first_of differs records place d = cond d.found d (cond differs (record { found = true; index = records; place = place }) d)
+abbrev pub first_of : Bool → ℕ → ℕ → Option Difference → Option Difference
+first_of differs records place (Some d) = Some d
+first_of differs records place None = cond differs (Some (record { index = records; place = place })) None
 
 -- one more record at a place: the entry e, which was judged x
 unfoldable pub counted : Entry → Recomputed → ℕ → Report → Report
@@ -61,7 +63,7 @@ pub record AddsUp (r : Report) : Type 0 where
   pub by_mode : total r.by_mode ≡ r.records
   pub by_answer : total r.by_answer ≡ r.records
 
--- a first difference, of so many records: it is one of them, or there is none and nothing is said of it
-pub record OfRecords (n : ℕ) (d : Difference) : Type 0 where
-  pub inside : d.found ≡ true → d.index < n
-  pub nowhere : d.found ≡ false → (d.index ≡ 0) × (d.place ≡ 0)
+-- a first difference, of so many records: it is one of them, or there is none
+abbrev pub OfRecords : ℕ → Option Difference → Type 0
+OfRecords n (Some d) = d.index < n
+OfRecords n None = Unit {0}

@@ -1,17 +1,19 @@
 // A recorded call, made again.
-ghost use Rattle.std.specs.Prelude.{◌≡◌, false, ◌+◌, ◌≤◌, ◌<◌, length};
+ghost use Rattle.std.specs.Prelude.{◌≡◌, false, not, ◌+◌, ◌≤◌, ◌<◌, length};
+ghost use Rattle.block.specs.Same.{same};
 ghost use Rattle.cipher_mode.specs.Answer.{head_of};
-ghost use Rattle.journal.specs.Format.{Stands, front, too_long};
+ghost use Rattle.journal.specs.Format.{too_long};
+ghost use Rattle.journal.specs.Reading.{entry_of};
 ghost use Rattle.journal.specs.Recomputed.{call_into, Answers, recomputed, differs_from, lent_room, judged};
 
-use crate::records;
-use cipher_mode::answer::{Answer, Ending};
-use cipher_mode::{Sm4Cipher, Sm4CipherMode, answer};
+use crate::records::{Call, OUTPUT_LIMIT};
+use cipher_mode::answer::Answer;
+use cipher_mode::{CipherMode, Sm4Cipher, Sm4CipherMode, answer};
 
 // The number of a mode that is none.
 const BAD_MODE: u32 = 7;
 
-// What a call answered.
+// What a call answered, by its number: a record has a number, not a refusal, and the report counts by it.
 #[derive(Clone, Copy)]
 pub(crate) struct Answered {
     pub number: u32,
@@ -26,89 +28,72 @@ pub(crate) struct Recomputed {
     pub differs: bool,
 }
 
-fn told(answer: Answer) -> Answered
-    ensures { result ≡ record { number = (head_of answer).number; length = (head_of answer).size } }
-{
-    let ending = answer.ending;
-    match ending {
-        Ending::Done(n) => Answered {
-            number: 0,
-            length: n,
-        },
-        Ending::Refused(refusal) => Answered {
-            number: answer::number(refusal),
-            length: 0,
-        },
+impl From<Answer> for Answered {
+    ghost from_gives = { λ answer told. told ≡ record { number = (head_of answer).number; length = (head_of answer).size } };
+
+    fn from(answer: Answer) -> Answered {
+        match answer.ending {
+            Ok(done) => Answered {
+                number: 0,
+                length: done.length,
+            },
+            Err(refusal) => Answered {
+                number: answer::number(refusal),
+                length: 0,
+            },
+        }
     }
 }
 
-fn call_into(cipher: Sm4Cipher, s: &[u8], out: &mut [u8]) -> Answered
-    requires { Stands s.now }
-    ensures { Answers result out.new (call_into cipher (front s.now) out.old) }
+fn call_into(cipher: Sm4Cipher, call: &Call<'_>, out: &mut [u8]) -> Answered
+    ensures { Answers result out.new (call_into cipher (entry_of call.now) out.old) }
 {
-    let number = records::mode(s);
-    if number > 4 {
+    let Ok(mode) = CipherMode::try_from(call.mode as u32) else {
         return Answered {
             number: BAD_MODE,
             length: 0,
         };
-    }
-    let mode = cipher_mode::mode_of(number as u32);
+    };
     let under = Sm4CipherMode { cipher, mode };
-    let direction = records::direction(s);
-    told(under.call(
-        direction,
-        records::label(s),
-        records::data(s),
-        records::iv(s),
-        out,
-    ))
+    Answered::from(under.call(call.direction, call.label, call.data, call.iv, out))
 }
 
-fn differs(s: &[u8], answered: Answered, res: &[u8]) -> bool
-    requires { Stands s.now }
-    ensures { result ≡ differs_from (front s.now) answered.number answered.length res.now }
+// Whether the bytes are other ones. Not `!=`: the library compares in a function of its own, and a jump on recorded bytes may stand in
+// `luossavin_replay` alone (host/secrets).
+fn other(a: &[u8], b: &[u8]) -> bool
+    ensures { result ≡ not (same a.now b.now) }
 {
-    if records::number(s) as u32 != answered.number {
-        return true;
-    }
-    let recorded = records::output(s);
-    if recorded.len() != answered.length {
-        return true;
-    }
-    !block::alike(recorded, res)
+    a.len() != b.len() || a.iter().zip(b).any(|(x, y)| x != y)
+}
+
+fn differs(call: &Call<'_>, answered: Answered, res: &[u8]) -> bool
+    ensures { result ≡ differs_from (entry_of call.now) answered.number answered.length res.now }
+{
+    call.number as u32 != answered.number
+        || call.output.len() != answered.length
+        || other(call.output, res)
 }
 
 // How much room the call is lent: never more than the longest output, whatever was recorded.
-fn lent_room(s: &[u8]) -> usize
-    requires { Stands s.now }
-    ensures { result ≡ lent_room (front s.now) }
+fn lent_room(call: &Call<'_>) -> usize
+    ensures { result ≡ lent_room (entry_of call.now) }
 {
-    let room = records::room(s) as usize;
-    if room > records::OUTPUT_LIMIT {
-        return records::OUTPUT_LIMIT;
-    }
-    room
+    (call.room as usize).min(OUTPUT_LIMIT)
 }
 
-fn longest_output() -> [u8; records::OUTPUT_LIMIT] {
-    [0u8; records::OUTPUT_LIMIT]
-}
-
-pub(crate) fn recompute(cipher: Sm4Cipher, s: &[u8]) -> Recomputed
-    requires stands { Stands s.now }
-    requires s_value { too_long (front s.now) ≡ false }
-    ensures value { result ≡ judged (front s.now) (recomputed cipher (front s.now)) }
+pub(crate) fn recompute(cipher: Sm4Cipher, call: &Call<'_>) -> Recomputed
+    requires { too_long (entry_of call.now) ≡ false }
+    ensures value { result ≡ judged (entry_of call.now) (recomputed cipher (entry_of call.now)) }
     ensures number_bound { result.number < 27 }
-    ensures length_bound { result.length ≤ 16 + length (front s.now).«data» }
+    ensures length_bound { result.length ≤ 16 + length call.now.data.now }
 {
-    let mut out = longest_output();
-    let n = lent_room(s);
-    let answered = call_into(cipher, s, &mut out[0..n]);
-    let length = answered.length;
-    let differs = differs(s, answered, &out[0..length]);
+    let room = lent_room(call);
+    let mut out = [0; OUTPUT_LIMIT];
+    let answered = call_into(cipher, call, &mut out[..room]);
+    let Answered { number, length } = answered;
+    let differs = differs(call, answered, &out[..length]);
     Recomputed {
-        number: answered.number,
+        number,
         length,
         differs,
     }

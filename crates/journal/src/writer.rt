@@ -1,32 +1,21 @@
 // Writes a record.
-ghost use Rattle.std.specs.Prelude.{◌≡◌, ◌+◌, ◌≤◌, length};
+ghost use Rattle.std.specs.Prelude.{◌≡◌, false, ◌+◌, ◌≤◌, length};
 ghost use Rattle.block.specs.Over.{over};
-ghost use Rattle.journal.specs.Format.{direction_byte, part};
-ghost use Rattle.journal.specs.Writer.{head_of, middle_of, asked_of, answered_of, entry_of, write};
+ghost use Rattle.journal.specs.Format.{direction_byte, part, head, middle, too_long};
+ghost use Rattle.journal.specs.Reading.{entry_of};
+ghost use Rattle.journal.specs.Writer.{asked_of, answered_of, write};
 
-use crate::records;
-use crate::records::{HEAD, LENGTH, MIDDLE};
+use crate::records::{Call, HEAD, LENGTH, MARK, MIDDLE};
 use cipher_mode::Direction;
 
-// What a record says of a call beside its label, data, IV and output: what was asked on which key, with how much room, and the number
-// of the answer.
-#[derive(Clone, Copy)]
-pub struct Call {
-    pub direction: Direction,
-    pub mode: u8,
-    pub key: u16,
-    pub room: u32,
-    pub number: u8,
-}
-
-// How many bytes were written; or a part or the output is past its limit; or the record does not fit.
-#[derive(Clone, Copy)]
-pub enum Wrote {
-    Done(usize),
+// Why no record was written: a part or the output is past its limit; or the record does not fit.
+#[derive(Clone, Copy, PartialEq, Eq, Debug)]
+pub enum Unwritten {
     TooLong,
     NoRoom,
 }
 
+// `Direction` is another crate's, so no `From` can stand here.
 fn direction_byte(direction: Direction) -> u8
     ensures { result ≡ direction_byte direction }
 {
@@ -37,26 +26,25 @@ fn direction_byte(direction: Direction) -> u8
 }
 
 // Mark, direction, mode and key number.
-fn head(call: Call) -> [u8; HEAD]
-    ensures { result ≡ head_of call }
+fn head(call: &Call<'_>) -> [u8; HEAD]
+    ensures { result ≡ head (entry_of call.now) }
 {
-    let direction = call.direction;
-    let key = block::split(call.key as u32);
+    let key = call.key.to_be_bytes();
     [
-        0x54,
-        0x52,
-        direction_byte(direction),
+        MARK[0],
+        MARK[1],
+        direction_byte(call.direction),
         call.mode,
-        key[2],
-        key[3],
+        key[0],
+        key[1],
     ]
 }
 
 // Room and number.
-fn middle(call: Call) -> [u8; MIDDLE]
-    ensures { result ≡ middle_of call }
+fn middle(call: &Call<'_>) -> [u8; MIDDLE]
+    ensures { result ≡ middle (entry_of call.now) }
 {
-    let room = block::split(call.room);
+    let room = call.room.to_be_bytes();
     [room[0], room[1], room[2], room[3], call.number]
 }
 
@@ -66,59 +54,47 @@ fn put_part(p: &[u8], out: &mut [u8])
     requires p_in_bounds { 4 + length p.now ≤ length out.old }
     ensures { out.new ≡ over (part p.now) out.old }
 {
-    let n = block::split(p.len() as u32);
-    out[..LENGTH].copy_from_slice(&n);
+    out[..LENGTH].copy_from_slice(&(p.len() as u32).to_be_bytes());
     out[LENGTH..LENGTH + p.len()].copy_from_slice(p);
 }
 
 // What was asked.
-fn put_asked(call: Call, label: &[u8], data: &[u8], iv: &[u8], out: &mut [u8])
-    requires label_len_bound { length label.now ≤ 16384 }
-    requires data_len_bound { length «data».now ≤ 16384 }
-    requires iv_len_bound { length iv.now ≤ 16384 }
-    requires iv_in_bounds { 18 + length label.now + length «data».now + length iv.now ≤ length out.old }
-    ensures { out.new ≡ over (asked_of call label.now «data».now iv.now) out.old }
+fn put_asked(call: &Call<'_>, out: &mut [u8])
+    requires short { too_long (entry_of call.now) ≡ false }
+    requires in_bounds { 18 + length call.now.label.now + length call.now.data.now + length call.now.iv.now ≤ length out.old }
+    ensures { out.new ≡ over (asked_of (entry_of call.now)) out.old }
 {
-    let head = head(call);
-    out[..HEAD].copy_from_slice(&head);
-    put_part(label, &mut out[HEAD..]);
-    let at = HEAD + LENGTH + label.len();
-    put_part(data, &mut out[at..]);
-    let at = at + LENGTH + data.len();
-    put_part(iv, &mut out[at..]);
+    out[..HEAD].copy_from_slice(&head(call));
+    put_part(call.label, &mut out[HEAD..]);
+    let at = HEAD + LENGTH + call.label.len();
+    put_part(call.data, &mut out[at..]);
+    let at = at + LENGTH + call.data.len();
+    put_part(call.iv, &mut out[at..]);
 }
 
 // What was answered.
-fn put_answered(call: Call, output: &[u8], out: &mut [u8])
-    requires output_len_bound { length output.now ≤ 16400 }
-    requires output_in_bounds { 9 + length output.now ≤ length out.old }
-    ensures { out.new ≡ over (answered_of call output.now) out.old }
+fn put_answered(call: &Call<'_>, out: &mut [u8])
+    requires short { too_long (entry_of call.now) ≡ false }
+    requires in_bounds { 9 + length call.now.output.now ≤ length out.old }
+    ensures { out.new ≡ over (answered_of (entry_of call.now)) out.old }
 {
-    let middle = middle(call);
-    out[..MIDDLE].copy_from_slice(&middle);
-    put_part(output, &mut out[MIDDLE..]);
+    out[..MIDDLE].copy_from_slice(&middle(call));
+    put_part(call.output, &mut out[MIDDLE..]);
 }
 
-// Writes the record of a call to the front of `out`. A refusal leaves `out` as it was.
-pub fn write(
-    call: Call,
-    label: &[u8],
-    data: &[u8],
-    iv: &[u8],
-    output: &[u8],
-    out: &mut [u8],
-) -> Wrote
-    ensures { record { wrote = result; bytes = out.new } ≡ write (entry_of call label.now «data».now iv.now output.now) out.old }
+// Writes a record to the front of `out`, and says how many bytes it has. A refusal leaves `out` as it was.
+pub fn write(call: &Call<'_>, out: &mut [u8]) -> Result<usize, Unwritten>
+    ensures { record { wrote = result; bytes = out.new } ≡ write (entry_of call.now) out.old }
 {
-    if records::past_limit(label.len(), data.len(), iv.len(), output.len()) {
-        return Wrote::TooLong;
+    if call.too_long() {
+        return Err(Unwritten::TooLong);
     }
-    let asked = HEAD + 3 * LENGTH + label.len() + data.len() + iv.len();
-    let size = asked + MIDDLE + LENGTH + output.len();
+    let asked = HEAD + 3 * LENGTH + call.label.len() + call.data.len() + call.iv.len();
+    let size = asked + MIDDLE + LENGTH + call.output.len();
     if out.len() < size {
-        return Wrote::NoRoom;
+        return Err(Unwritten::NoRoom);
     }
-    put_asked(call, label, data, iv, out);
-    put_answered(call, output, &mut out[asked..]);
-    Wrote::Done(size)
+    put_asked(call, out);
+    put_answered(call, &mut out[asked..]);
+    Ok(size)
 }

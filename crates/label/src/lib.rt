@@ -9,7 +9,8 @@ ghost use Rattle.label.specs.Label.{label_of};
 pub fn label(job: u32, edition: u16) -> [u8; 6]
     ensures { result ≡ label_of job edition }
 {
-    let j = block::split(job);
-    let e = block::split(edition as u32);
-    [j[0], j[1], j[2], j[3], e[2], e[3]]
+    let mut label = [0; 6];
+    label[..4].copy_from_slice(&job.to_be_bytes());
+    label[4..].copy_from_slice(&edition.to_be_bytes());
+    label
 }

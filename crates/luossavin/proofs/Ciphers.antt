@@ -1,17 +1,16 @@
--- The records of a host are made `cipher_mode`'s, one after another.
-use Rattle.block.proofs.Base.{◌+◌, ◌<◌, ◌≤◌, ℕ, ◌≡◌, List, ◌++◌, append_assoc, append-nil, map, add-one, drop, drop_of_length-le, get_or}
-use Rattle.block.proofs.Base.{length, set, take, drop-cons, take_all, take-suc-set}
+-- The records of a host are made `cipher_mode`'s, each by itself.
+use Rattle.block.proofs.Base.{◌<◌, ℕ, ◌∙◌, ◌≡◌, sym, List, map, get_or, length, replicate}
+use Rattle.std.proofs.lemmas.List.{ext_get_or, length-map}
+use Rattle.std.proofs.Math.ListN.{get_or-map}
 use Rattle.cipher_mode.specs.declared.Sm4Cipher.{Sm4Cipher}
 use Rattle.luossavin.specs.declared.key.LuossavinKey.{LuossavinKey}
 use Rattle.luossavin.specs.Key.{cipher_in}
 
--- those before i are made, and those from i on are to be
-abbrev pub to_be : List LuossavinKey → List Sm4Cipher → ℕ → List Sm4Cipher
-to_be ks cs i = take i cs ++ map cipher_in (drop i ks)
+abbrev pub no_record : LuossavinKey
+no_record = record { round_keys = replicate 32 0; answer = 0; number = 0; retired = 0; engine = 0 }
 
-pub one_made : (ks : List LuossavinKey) (cs : List Sm4Cipher) (i : ℕ) (k : LuossavinKey) (c : Sm4Cipher) → i < length ks → i < length cs
-    → c ≡ cipher_in (get_or ks i k) → to_be ks (set cs i c) (i + 1) ≡ to_be ks cs i
-one_made ks cs i k c h l e = rw (e, add-one i, take-suc-set cs i (cipher_in (get_or ks i k)) l, drop-cons ks i k h, append_assoc)
-
-pub all_made : (ks : List LuossavinKey) (cs : List Sm4Cipher) (i : ℕ) → length ks ≤ i → length cs ≤ i → to_be ks cs i ≡ cs
-all_made ks cs i h l = rw (drop_of_length-le ks h, append-nil, take_all i cs l)
+pub all_made : (ks : List LuossavinKey) (cs : List Sm4Cipher) → length cs ≡ length ks
+    → ((i : ℕ) → i < length cs → get_or cs i (cipher_in no_record) ≡ cipher_in (get_or ks i no_record)) → cs ≡ map cipher_in ks
+all_made ks cs l each =
+    ext_get_or (cipher_in no_record) cs (map cipher_in ks) (l ∙ sym (length-map ks cipher_in))
+    (λ i h. each i h ∙ sym (get_or-map cipher_in ks i no_record))

@@ -2,6 +2,6 @@
 use Rattle.block.proofs.Base.{◌≡◌, refl, Bool, cond, false, true}
 use mir.Val.{bool_byte}
 
-pub mark-byte : (b : Bool) → bool_byte b ≡ cond b 1 0
-mark-byte true = refl
-mark-byte false = refl
+pub mark_byte : (b : Bool) → bool_byte b ≡ cond b 1 0
+mark_byte true = refl
+mark_byte false = refl

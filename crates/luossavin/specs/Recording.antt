@@ -1,9 +1,9 @@
 -- The exported call that writes the record of a call: what it leaves.
-use Rattle.std.specs.Prelude.{ℕ, Bool, cond, List, ltb, length}
+use Rattle.std.specs.Prelude.{ℕ, Bool, cond, List, ltb, length, Result, Ok, Err}
 use Rattle.cipher_mode.specs.Outcome.{Head, Outcome, finished, refusal, refuse, done}
 use Rattle.journal.specs.Format.{Entry, written, too_long}
-use Rattle.journal.specs.declared.writer.Wrote.{Wrote}
-use Rattle.journal.specs.declared.writer.Wrote.TheVariants.{Done, TooLong, NoRoom}
+use Rattle.journal.specs.declared.writer.Unwritten.{Unwritten}
+use Rattle.journal.specs.declared.writer.Unwritten.TheVariants.{TooLong, NoRoom}
 use Rattle.luossavin.specs.InPieces.{direction_of}
 
 -- n, or the most that there is room for
@@ -36,7 +36,7 @@ unfoldable pub host_record : Bool → ℕ → ℕ → List ℕ → List ℕ → 
 host_record decrypt mode key label d iv room number output o = recorded (entry_in decrypt mode key label d iv room number output) o
 
 -- how a writer ended, as an answer, which is on no key
-abbrev pub wrote_head : Wrote → Head
-wrote_head (Done n) = finished n
-wrote_head TooLong = refusal 24
-wrote_head NoRoom = refusal 6
+abbrev pub wrote_head : Result ℕ Unwritten → Head
+wrote_head (Ok n) = finished n
+wrote_head (Err TooLong) = refusal 24
+wrote_head (Err NoRoom) = refusal 6

@@ -1,11 +1,10 @@
 -- The exported call that asks which of many labels a file opens under: what it leaves. It is the call of `editions` on the record that
 -- the host's is.
-use Rattle.std.specs.Prelude.{ℕ, cond, List}
+use Rattle.std.specs.Prelude.{ℕ, cond, List, Option, Some, None, Result, Ok, Err}
 use Rattle.cipher_mode.specs.Outcome.{Head, finished, refusal}
-use Rattle.cipher_mode.specs.Answer.{refusal_head}
-use Rattle.editions.specs.Which.{Verdict, which}
-use Rattle.editions.specs.declared.Ended.{Ended}
-use Rattle.editions.specs.declared.Ended.TheVariants.{Candidate, None, BadList, Refused}
+use Rattle.editions.specs.Which.{Verdict, which, unanswered_head}
+use Rattle.editions.specs.declared.Candidate.{Candidate}
+use Rattle.editions.specs.declared.Unanswered.{Unanswered}
 use Rattle.luossavin.specs.declared.key.LuossavinKey.{LuossavinKey}
 use Rattle.luossavin.specs.declared.which.LuossavinFound.{LuossavinFound}
 use Rattle.luossavin.specs.Key.{cipher_in}
@@ -29,8 +28,7 @@ unfoldable pub host_which : LuossavinKey → List ℕ → List ℕ → List ℕ 
 host_which k file iv labels lengths = told_of (which (cipher_in k) file iv labels lengths)
 
 -- how a question ended, as an answer, where n is the number that says that no candidate opens: 0 or 4
-abbrev pub ended_head : ℕ → Ended → Head
-ended_head n Candidate = finished 0
-ended_head n None = refusal n
-ended_head n BadList = refusal 16
-ended_head n (Refused r) = refusal_head r
+abbrev pub ended_head : ℕ → Result (Option Candidate) Unanswered → Head
+ended_head n (Ok (Some c)) = finished 0
+ended_head n (Ok None) = refusal n
+ended_head n (Err e) = unanswered_head e

@@ -5,10 +5,11 @@ ghost use Rattle.label.specs.Label.{label_of};
 ghost use Rattle.luossavin.specs.Host.{head_in, reported, host_mode_call};
 ghost use Rattle.luossavin.specs.Edition.{host_edition_opens};
 
-use crate::key::{LuossavinKey, cipher_of};
-use crate::which::report_ended;
+use crate::key::LuossavinKey;
+use crate::which::report_found;
 use crate::{LuossavinAnswer, mode_call};
-use cipher_mode::Direction;
+use cipher_mode::answer::Refusal;
+use cipher_mode::{Direction, answer};
 
 // The six bytes of a label.
 #[repr(C)]
@@ -17,11 +18,8 @@ pub struct LuossavinLabel {
     pub bytes: [u8; 6],
 }
 
-// The mode that seals.
+// The mode that seals, by its number in the header: what is promised of an edition is the answer of the exported call of this mode.
 const GCM: u32 = 4;
-
-// The refusal of a tag.
-const INVALID_TAG: u32 = 4;
 
 #[unsafe(no_mangle)]
 pub extern "C" fn luossavin_label(job: u32, edition: u16) -> LuossavinLabel
@@ -44,9 +42,8 @@ pub extern "C" fn luossavin_edition_opens(
 {
     let label = label::label(job, edition);
     let lengths = [6usize];
-    let found = editions::which(cipher_of(key), sealed, iv, &label, &lengths);
-    let ended = found.ended;
-    report_ended(ended, found.key, INVALID_TAG)
+    let found = editions::which(key.into(), sealed, iv, &label, &lengths);
+    report_found(found, answer::number(Refusal::InvalidTag))
 }
 
 #[unsafe(no_mangle)]

@@ -6,6 +6,7 @@ ghost use Rattle.luossavin.specs.Halves.{host_hash_blocks, host_hash_join};
 use block::U128;
 use ghash::halves;
 
+#[tactic(auto, using(crate::proofs::Values::of_value), unfolding(crate::specs::Halves::host_hash_blocks))]
 #[unsafe(no_mangle)]
 pub extern "C" fn luossavin_hash_blocks(h: U128, bytes: &[u8]) -> U128
     ensures { result ≡ host_hash_blocks h bytes.now }
@@ -13,6 +14,7 @@ pub extern "C" fn luossavin_hash_blocks(h: U128, bytes: &[u8]) -> U128
     halves::hash_blocks(h, bytes)
 }
 
+#[tactic(auto, using(crate::proofs::Values::of_value), unfolding(crate::specs::Halves::host_hash_join))]
 #[unsafe(no_mangle)]
 pub extern "C" fn luossavin_hash_join(
     h: U128,

@@ -6,12 +6,15 @@ ghost use Rattle.pieces.specs.Calls.{ctr_piece, ctr_end, seal_piece, seal_end, o
 ghost use Rattle.luossavin.specs.Host.{head_in};
 ghost use Rattle.luossavin.specs.InPieces.{ctr_reported, seal_reported, opens_reported, direction_of, host_ctr_start, host_seal_start, host_opens_start};
 
-use crate::key::{LuossavinKey, cipher_of};
-use crate::{LuossavinAnswer, report};
+use crate::LuossavinAnswer;
+use crate::key::LuossavinKey;
 use cipher_mode::Direction;
 use pieces::ctr::Ctr;
-use pieces::{ctr, opens, seal};
+use pieces::opens::Opens;
+use pieces::seal::Seal;
+use pieces::{Step, ctr, opens, seal};
 
+// A struct for each state, and not one generic `Step`: the signature of an exported call takes no type arguments.
 #[repr(C)]
 #[derive(Clone, Copy)]
 pub struct LuossavinCtrStep {
@@ -23,55 +26,61 @@ pub struct LuossavinCtrStep {
 #[derive(Clone, Copy)]
 pub struct LuossavinSealStep {
     pub answer: LuossavinAnswer,
-    pub state: seal::Seal,
+    pub state: Seal,
 }
 
 #[repr(C)]
 #[derive(Clone, Copy)]
 pub struct LuossavinOpensStep {
     pub answer: LuossavinAnswer,
-    pub state: opens::Opens,
+    pub state: Opens,
 }
 
-fn ctr_step(step: ctr::CtrStep) -> LuossavinCtrStep
-    ensures { (head_in result.answer ≡ head_of step.answer) × (result.state ≡ step.state) }
-{
-    let state = step.state;
-    LuossavinCtrStep {
-        answer: report(step.answer),
-        state,
+impl From<Step<Ctr>> for LuossavinCtrStep {
+    ghost from_gives = { λ step told. (head_in told.answer ≡ head_of step.answer) × (told.state ≡ step.state) };
+
+    fn from(step: Step<Ctr>) -> LuossavinCtrStep {
+        LuossavinCtrStep {
+            answer: step.answer.into(),
+            state: step.state,
+        }
     }
 }
 
-fn seal_step(step: seal::SealStep) -> LuossavinSealStep
-    ensures { (head_in result.answer ≡ head_of step.answer) × (result.state ≡ step.state) }
-{
-    let state = step.state;
-    LuossavinSealStep {
-        answer: report(step.answer),
-        state,
+impl From<Step<Seal>> for LuossavinSealStep {
+    ghost from_gives = { λ step told. (head_in told.answer ≡ head_of step.answer) × (told.state ≡ step.state) };
+
+    fn from(step: Step<Seal>) -> LuossavinSealStep {
+        LuossavinSealStep {
+            answer: step.answer.into(),
+            state: step.state,
+        }
     }
 }
 
-fn opens_step(step: opens::OpensStep) -> LuossavinOpensStep
-    ensures { (head_in result.answer ≡ head_of step.answer) × (result.state ≡ step.state) }
-{
-    let state = step.state;
-    LuossavinOpensStep {
-        answer: report(step.answer),
-        state,
+impl From<Step<Opens>> for LuossavinOpensStep {
+    ghost from_gives = { λ step told. (head_in told.answer ≡ head_of step.answer) × (told.state ≡ step.state) };
+
+    fn from(step: Step<Opens>) -> LuossavinOpensStep {
+        LuossavinOpensStep {
+            answer: step.answer.into(),
+            state: step.state,
+        }
     }
 }
 
+// A flag of the header. Both types are of other crates, so this is no `From`.
 pub(crate) fn direction_of(decrypt: bool) -> Direction
     ensures { result ≡ direction_of decrypt }
 {
     if decrypt {
-        return Direction::Decrypt;
+        Direction::Decrypt
+    } else {
+        Direction::Encrypt
     }
-    Direction::Encrypt
 }
 
+#[tactic(auto, unfolding(crate::specs::InPieces::host_ctr_start))]
 #[unsafe(no_mangle)]
 pub extern "C" fn luossavin_ctr_start(
     key: LuossavinKey,
@@ -80,23 +89,24 @@ pub extern "C" fn luossavin_ctr_start(
 ) -> LuossavinCtrStep
     ensures { ctr_reported result [] ≡ host_ctr_start key decrypt iv.now }
 {
-    ctr_step(ctr::start(direction_of(decrypt), cipher_of(key), iv))
+    ctr::start(direction_of(decrypt), key.into(), iv).into()
 }
 
 #[unsafe(no_mangle)]
 pub extern "C" fn luossavin_ctr_piece(state: Ctr, data: &[u8], out: &mut [u8]) -> LuossavinCtrStep
     ensures { ctr_reported result out.new ≡ ctr_piece state «data».now out.old }
 {
-    ctr_step(state.piece(data, out))
+    state.piece(data, out).into()
 }
 
 #[unsafe(no_mangle)]
 pub extern "C" fn luossavin_ctr_end(state: Ctr) -> LuossavinCtrStep
     ensures { ctr_reported result [] ≡ ctr_end state }
 {
-    ctr_step(state.end())
+    state.end().into()
 }
 
+#[tactic(auto, unfolding(crate::specs::InPieces::host_seal_start))]
 #[unsafe(no_mangle)]
 pub extern "C" fn luossavin_seal_start(
     key: LuossavinKey,
@@ -105,27 +115,28 @@ pub extern "C" fn luossavin_seal_start(
 ) -> LuossavinSealStep
     ensures { seal_reported result [] ≡ host_seal_start key aad.now iv.now }
 {
-    seal_step(seal::start(cipher_of(key), aad, iv))
+    seal::start(key.into(), aad, iv).into()
 }
 
 #[unsafe(no_mangle)]
 pub extern "C" fn luossavin_seal_piece(
-    state: seal::Seal,
+    state: Seal,
     data: &[u8],
     out: &mut [u8],
 ) -> LuossavinSealStep
     ensures { seal_reported result out.new ≡ seal_piece state «data».now out.old }
 {
-    seal_step(state.piece(data, out))
+    state.piece(data, out).into()
 }
 
 #[unsafe(no_mangle)]
-pub extern "C" fn luossavin_seal_end(state: seal::Seal, out: &mut [u8]) -> LuossavinSealStep
+pub extern "C" fn luossavin_seal_end(state: Seal, out: &mut [u8]) -> LuossavinSealStep
     ensures { seal_reported result out.new ≡ seal_end state out.old }
 {
-    seal_step(state.end(out))
+    state.end(out).into()
 }
 
+#[tactic(auto, unfolding(crate::specs::InPieces::host_opens_start))]
 #[unsafe(no_mangle)]
 pub extern "C" fn luossavin_opens_start(
     key: LuossavinKey,
@@ -134,19 +145,19 @@ pub extern "C" fn luossavin_opens_start(
 ) -> LuossavinOpensStep
     ensures { opens_reported result [] ≡ host_opens_start key aad.now iv.now }
 {
-    opens_step(opens::start(cipher_of(key), aad, iv))
+    opens::start(key.into(), aad, iv).into()
 }
 
 #[unsafe(no_mangle)]
-pub extern "C" fn luossavin_opens_piece(state: opens::Opens, data: &[u8]) -> LuossavinOpensStep
+pub extern "C" fn luossavin_opens_piece(state: Opens, data: &[u8]) -> LuossavinOpensStep
     ensures { opens_reported result [] ≡ opens_piece state «data».now }
 {
-    opens_step(state.piece(data))
+    state.piece(data).into()
 }
 
 #[unsafe(no_mangle)]
-pub extern "C" fn luossavin_opens_end(state: opens::Opens, tag: &[u8]) -> LuossavinOpensStep
+pub extern "C" fn luossavin_opens_end(state: Opens, tag: &[u8]) -> LuossavinOpensStep
     ensures { opens_reported result [] ≡ opens_end state tag.now }
 {
-    opens_step(state.end(tag))
+    state.end(tag).into()
 }

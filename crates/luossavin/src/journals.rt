@@ -1,16 +1,19 @@
 // A journal of recorded calls, for a host: the record of a call of `luossavin_encrypt` or `luossavin_decrypt` is written, and the
 // calls of a journal are made again, on the records that the host's are.
-ghost use Rattle.std.specs.Prelude.{◌≡◌, ◌≤◌};
+ghost use Rattle.std.specs.Prelude.{◌≡◌};
 ghost use Rattle.luossavin.specs.Host.{head_in, reported};
 ghost use Rattle.luossavin.specs.Journals.{keys_of, told_of, host_replay};
-ghost use Rattle.luossavin.specs.Recording.{at_most, wrote_head, host_record};
+ghost use Rattle.luossavin.specs.Recording.{wrote_head, host_record};
 
 use crate::in_pieces::direction_of;
-use crate::key::{LuossavinKey, cipher_of};
-use crate::{LuossavinAnswer, numbered, report};
-use cipher_mode::answer;
+use crate::key::LuossavinKey;
+use crate::{LuossavinAnswer, numbered};
+use cipher_mode::{Sm4Cipher, answer};
 use journal::keys::Keys;
-use journal::{Replayed, writer};
+use journal::records::Call;
+use journal::report::{Difference, Report};
+use journal::writer::Unwritten;
+use journal::{Stopped, writer};
 
 // The first `count` records; the others are not looked at.
 #[repr(C)]
@@ -20,9 +23,9 @@ pub struct LuossavinKeys {
     pub keys: [LuossavinKey; 8],
 }
 
-// It stands for `Replayed`, which has an enum and a bool: the number of how it ended, and the place of the record that was refused; 1
-// where a record differs, how many records are before the first that does, and its place; and the totals. Where there is no such
-// record, what is said of it is 0.
+// It stands for the `Result` of a replay, and an `Option`, which no C types are: the number of how it ended, and the place of the record
+// that was refused; 1 where a record differs, how many records are before the first that does, and its place; and the totals. Where there
+// is no such record, what is said of it is 0.
 #[repr(C)]
 #[derive(Clone, Copy)]
 pub struct LuossavinReplayed {
@@ -39,71 +42,65 @@ pub struct LuossavinReplayed {
 }
 
 // The records that `journal` takes.
-fn keys_of(keys: LuossavinKeys) -> Keys
-    ensures { result ≡ keys_of keys }
-{
-    let theirs = keys.keys;
-    let mut ours = [cipher_of(theirs[0]); 8];
-    let mut i = 0;
-    while i < 8 {
-        ours[i] = cipher_of(theirs[i]);
-        i += 1;
-    }
-    Keys {
-        count: keys.count,
-        keys: ours,
+impl From<LuossavinKeys> for Keys {
+    ghost from_gives = { λ theirs ours. ours ≡ keys_of theirs };
+
+    fn from(keys: LuossavinKeys) -> Keys {
+        Keys {
+            count: keys.count,
+            keys: keys.keys.map(Sm4Cipher::from),
+        }
     }
 }
 
-fn report_replayed(replayed: Replayed) -> LuossavinReplayed
-    ensures { result ≡ told_of replayed }
-{
-    let ended = replayed.ended;
-    let totals = replayed.report;
-    let first = totals.first;
-    let by_mode = totals.by_mode;
-    let by_answer = totals.by_answer;
-    LuossavinReplayed {
-        number: journal::number(ended),
-        differs: first.found as u32,
-        place: replayed.place,
-        first_record: first.index,
-        first_place: first.place,
-        records: totals.records,
-        by_mode,
-        by_answer,
-        bytes_in: totals.bytes_in,
-        bytes_out: totals.bytes_out,
+impl From<Result<Report, Stopped>> for LuossavinReplayed {
+    ghost from_gives = { λ replayed told. told ≡ told_of replayed };
+
+    fn from(replayed: Result<Report, Stopped>) -> LuossavinReplayed {
+        let (place, report) = match replayed {
+            Ok(report) => (0, report),
+            Err(stopped) => (stopped.place, stopped.report),
+        };
+        let first = report.first.unwrap_or(Difference { index: 0, place: 0 });
+        // by variables, as in `key`: a field that is an array goes into a literal only from one
+        let by_mode = report.by_mode;
+        let by_answer = report.by_answer;
+        LuossavinReplayed {
+            number: journal::number(replayed),
+            differs: report.first.is_some() as u32,
+            place,
+            first_record: first.index,
+            first_place: first.place,
+            records: report.records,
+            by_mode,
+            by_answer,
+            bytes_in: report.bytes_in,
+            bytes_out: report.bytes_out,
+        }
     }
 }
 
+#[tactic(auto, unfolding(crate::specs::Journals::host_replay))]
 #[unsafe(no_mangle)]
 pub extern "C" fn luossavin_replay(keys: LuossavinKeys, file: &[u8]) -> LuossavinReplayed
     ensures { result ≡ host_replay keys file.now }
 {
-    report_replayed(journal::replay(keys_of(keys), file))
+    journal::replay(keys.into(), file).into()
 }
 
-// A number as a record has room for it: one that is larger as the largest.
-fn at_most(most: usize, n: usize) -> usize
-    ensures { (result ≡ at_most most n) × (result ≤ most) }
-{
-    if n > most {
-        return most;
-    }
-    n
-}
+impl From<Result<usize, Unwritten>> for LuossavinAnswer {
+    ghost from_gives = { λ wrote told. head_in told ≡ wrote_head wrote };
 
-fn report_wrote(wrote: writer::Wrote) -> LuossavinAnswer
-    ensures { head_in result ≡ wrote_head wrote }
-{
-    match wrote {
-        writer::Wrote::Done(n) => report(answer::done(0, n)),
-        writer::Wrote::TooLong => numbered(24, 0),
-        writer::Wrote::NoRoom => numbered(6, 0),
+    fn from(wrote: Result<usize, Unwritten>) -> LuossavinAnswer {
+        match wrote {
+            Ok(length) => answer::done(0, length).into(),
+            Err(Unwritten::TooLong) => numbered(24, 0),
+            Err(Unwritten::NoRoom) => numbered(6, 0),
+        }
     }
 }
 
+// A number that a record has no room for is written as the largest.
 #[unsafe(no_mangle)]
 pub extern "C" fn luossavin_record(
     decrypt: bool,
@@ -119,12 +116,16 @@ pub extern "C" fn luossavin_record(
 ) -> LuossavinAnswer
     ensures { reported result out.new ≡ host_record decrypt mode key aad.now «data».now iv.now room number output.now out.old }
 {
-    let call = writer::Call {
+    let call = Call {
         direction: direction_of(decrypt),
-        mode: at_most(255, mode as usize) as u8,
+        mode: u8::try_from(mode).unwrap_or(u8::MAX),
         key,
-        room: at_most(0xffff_ffff, room) as u32,
-        number: at_most(255, number as usize) as u8,
+        label: aad,
+        data,
+        iv,
+        room: u32::try_from(room).unwrap_or(u32::MAX),
+        number: u8::try_from(number).unwrap_or(u8::MAX),
+        output,
     };
-    report_wrote(writer::write(call, aad, data, iv, output, out))
+    writer::write(&call, out).into()
 }

@@ -1,6 +1,7 @@
 // The host boundary: what a host in C or Rust links, declared in `include/luossavin.h`. Every call ends with an answer, and
 // none has a `requires`: a host that breaks one could not be told. A struct of the crates below crosses as it is where its layout is
-// the header's. One that holds an enum or a bool cannot: a struct of numbers stands for it here.
+// the header's. One that holds an enum, a bool, an `Option` or a `Result` cannot: a struct of numbers stands
+// for it here.
 
 #![tactic(auto)]
 
@@ -18,8 +19,9 @@ ghost use Rattle.cipher_mode.specs.Outcome.{under, refusal};
 ghost use Rattle.cipher_mode.specs.Answer.{head_of};
 ghost use Rattle.luossavin.specs.Host.{head_in, reported, mode_in, host_block_call, host_mode_call};
 
-use cipher_mode::{Direction, Sm4CipherMode, answer};
-use key::{LuossavinKey, cipher_of};
+use cipher_mode::answer::Answer;
+use cipher_mode::{CipherMode, Direction, Sm4Cipher, Sm4CipherMode, answer};
+use key::LuossavinKey;
 
 // The number, how many bytes were missing where that is refusal 9, 1 where the counter of a message came round, the number
 // of the key that stands, and how many bytes of the output are the result.
@@ -36,7 +38,7 @@ pub struct LuossavinAnswer {
 // The one refusal that is the boundary's own.
 const BAD_MODE: u32 = 7;
 
-// An answer that is a number alone, on a key with this number.
+// An answer that is a number of the header alone, on a key with this number.
 pub(crate) fn numbered(number: u32, key: u16) -> LuossavinAnswer
     ensures { head_in result ≡ under key (refusal number) }
 {
@@ -49,37 +51,24 @@ pub(crate) fn numbered(number: u32, key: u16) -> LuossavinAnswer
     }
 }
 
-pub(crate) fn report(answer: answer::Answer) -> LuossavinAnswer
-    ensures { head_in result ≡ head_of answer }
-{
-    let ending = answer.ending;
-    let came_round = answer.came_round as u8;
-    let key = answer.key;
-    match ending {
-        answer::Ending::Done(n) => LuossavinAnswer {
-            number: 0,
-            missing: 0,
-            came_round,
-            key,
-            length: n,
-        },
-        answer::Ending::Refused(reason) => LuossavinAnswer {
-            number: answer::number(reason),
-            missing: answer::missing(reason),
-            came_round,
-            key,
-            length: 0,
-        },
-    }
-}
+impl From<Answer> for LuossavinAnswer {
+    ghost from_gives = { λ answer told. head_in told ≡ head_of answer };
 
-// The record with the mode that it is used in.
-fn mode_in(key: LuossavinKey, mode: u32) -> Sm4CipherMode
-    ensures { result ≡ mode_in key mode }
-{
-    Sm4CipherMode {
-        cipher: cipher_of(key),
-        mode: cipher_mode::mode_of(mode),
+    fn from(answer: Answer) -> LuossavinAnswer {
+        match answer.ending {
+            Ok(done) => LuossavinAnswer {
+                number: 0,
+                missing: 0,
+                came_round: done.came_round as u8,
+                key: answer.key,
+                length: done.length,
+            },
+            Err(refusal) => LuossavinAnswer {
+                number: answer::number(refusal),
+                missing: answer::missing(refusal),
+                ..numbered(0, answer.key)
+            },
+        }
     }
 }
 
@@ -95,12 +84,16 @@ pub(crate) fn mode_call(
 ) -> LuossavinAnswer
     ensures { reported result out.new ≡ host_mode_call direction mode key aad.now «data».now iv.now out.old }
 {
-    match mode {
-        0..=4 => report(mode_in(key, mode).call(direction, aad, data, iv, out)),
-        _ => numbered(BAD_MODE, 0),
-    }
+    let Ok(mode) = CipherMode::try_from(mode) else {
+        return numbered(BAD_MODE, 0);
+    };
+    let cipher = Sm4Cipher::from(key);
+    Sm4CipherMode { cipher, mode }
+        .call(direction, aad, data, iv, out)
+        .into()
 }
 
+#[tactic(auto, unfolding(crate::specs::Host::host_block_call))]
 #[unsafe(no_mangle)]
 pub extern "C" fn luossavin_block_encrypt(
     key: LuossavinKey,
@@ -109,9 +102,10 @@ pub extern "C" fn luossavin_block_encrypt(
 ) -> LuossavinAnswer
     ensures { reported result out.new ≡ host_block_call Direction.Encrypt key block.now out.old }
 {
-    report(cipher_of(key).call(Direction::Encrypt, block, out))
+    Sm4Cipher::from(key).encrypt(block, out).into()
 }
 
+#[tactic(auto, unfolding(crate::specs::Host::host_block_call))]
 #[unsafe(no_mangle)]
 pub extern "C" fn luossavin_block_decrypt(
     key: LuossavinKey,
@@ -120,7 +114,7 @@ pub extern "C" fn luossavin_block_decrypt(
 ) -> LuossavinAnswer
     ensures { reported result out.new ≡ host_block_call Direction.Decrypt key block.now out.old }
 {
-    report(cipher_of(key).call(Direction::Decrypt, block, out))
+    Sm4Cipher::from(key).decrypt(block, out).into()
 }
 
 #[unsafe(no_mangle)]

@@ -1,10 +1,10 @@
 // A shelf, for a host: the calls of the crate `shelf` on a buffer that the host lends. The record that is found crosses as its
 // start and length, since no reference does.
-ghost use Rattle.std.specs.Prelude.{◌≡◌};
-ghost use Rattle.shelf.specs.Calls.{number_of_end, put_call, collect_call, find_call};
+ghost use Rattle.std.specs.Prelude.{◌≡◌, ℕ, List};
+ghost use Rattle.shelf.specs.Calls.{outcome_of, place_in, put_call, collect_call, find_call};
 ghost use Rattle.luossavin.specs.Shelves.{shelf_reported, shelved_reported};
 
-use shelf::Kept;
+use shelf::{Found, Unshelved};
 
 // The number of how it ended, and how many bytes are used after the call: a refusal hands back the count that came.
 #[repr(C)]
@@ -23,14 +23,35 @@ pub struct LuossavinShelved {
     pub length: usize,
 }
 
-fn report_kept(kept: Kept) -> LuossavinShelf
-    ensures number_value { result.number ≡ number_of_end kept.ended }
-    ensures used_value { result.used ≡ kept.used }
+// How a change of a shelf ended whose count was `used` before it.
+fn report_kept(used: usize, kept: Result<usize, Unshelved>) -> LuossavinShelf
+    ensures { (shelf : List ℕ) → shelf_reported result shelf ≡ outcome_of used kept shelf }
 {
-    let ended = kept.ended;
-    LuossavinShelf {
-        number: shelf::number(ended),
-        used: kept.used,
+    match kept {
+        Ok(used) => LuossavinShelf { number: 0, used },
+        Err(refused) => LuossavinShelf {
+            number: shelf::number(refused),
+            used,
+        },
+    }
+}
+
+impl From<Result<Found, Unshelved>> for LuossavinShelved {
+    ghost from_gives = { λ found told. shelved_reported told ≡ place_in found };
+
+    fn from(found: Result<Found, Unshelved>) -> LuossavinShelved {
+        match found {
+            Ok(found) => LuossavinShelved {
+                number: 0,
+                start: found.start,
+                length: found.length,
+            },
+            Err(refused) => LuossavinShelved {
+                number: shelf::number(refused),
+                start: 0,
+                length: 0,
+            },
+        }
     }
 }
 
@@ -44,25 +65,19 @@ pub extern "C" fn luossavin_shelf_put(
 ) -> LuossavinShelf
     ensures { shelf_reported result shelf.new ≡ put_call shelf.old used job edition sealed.now }
 {
-    report_kept(shelf::put(shelf, used, job, edition, sealed))
+    report_kept(used, shelf::put(shelf, used, job, edition, sealed))
 }
 
 #[unsafe(no_mangle)]
 pub extern "C" fn luossavin_shelf_collect(shelf: &mut [u8], used: usize) -> LuossavinShelf
     ensures { shelf_reported result shelf.new ≡ collect_call shelf.old used }
 {
-    report_kept(shelf::collect(shelf, used))
+    report_kept(used, shelf::collect(shelf, used))
 }
 
 #[unsafe(no_mangle)]
 pub extern "C" fn luossavin_shelf_find(shelf: &[u8], used: usize, job: u32) -> LuossavinShelved
     ensures { shelved_reported result ≡ find_call shelf.now used job }
 {
-    let found = shelf::find(shelf, used, job);
-    let ended = found.ended;
-    LuossavinShelved {
-        number: shelf::number(ended),
-        start: found.start,
-        length: found.length,
-    }
+    shelf::find(shelf, used, job).into()
 }

@@ -5,12 +5,12 @@ ghost use Rattle.cipher_mode.specs.Outcome.{under};
 ghost use Rattle.luossavin.specs.Host.{head_in};
 ghost use Rattle.luossavin.specs.Which.{ended_head, found_reported, host_which};
 
-use crate::key::{LuossavinKey, cipher_of};
-use crate::{LuossavinAnswer, numbered, report};
+use crate::key::LuossavinKey;
+use crate::{LuossavinAnswer, numbered};
 use cipher_mode::answer;
-use editions::Ended;
+use editions::{Found, Unanswered};
 
-// It stands for `Found`, which ends with an enum. `found` is 1 or 0, and place, start and length are 0 unless it is 1.
+// It stands for `Found`, which holds an `Option`. `found` is 1 or 0, and place, start and length are 0 unless it is 1.
 #[repr(C)]
 #[derive(Clone, Copy)]
 pub struct LuossavinFound {
@@ -22,14 +22,14 @@ pub struct LuossavinFound {
 }
 
 // How a question ended, as an answer; `none` is the number where the file opens under no candidate.
-pub(crate) fn report_ended(ended: Ended, key: u16, none: u32) -> LuossavinAnswer
-    ensures { head_in result ≡ under key (ended_head none ended) }
+pub(crate) fn report_found(found: Found, none: u32) -> LuossavinAnswer
+    ensures { head_in result ≡ under found.key (ended_head none found.ended) }
 {
-    match ended {
-        Ended::Candidate => numbered(0, key),
-        Ended::None => numbered(none, key),
-        Ended::BadList => numbered(16, key),
-        Ended::Refused(reason) => report(answer::refused(key, reason)),
+    match found.ended {
+        Ok(Some(_)) => numbered(0, found.key),
+        Ok(None) => numbered(none, found.key),
+        Err(Unanswered::BadList) => numbered(16, found.key),
+        Err(Unanswered::Refused(refusal)) => answer::refused(found.key, refusal).into(),
     }
 }
 
@@ -43,13 +43,22 @@ pub extern "C" fn luossavin_which(
 ) -> LuossavinFound
     ensures { found_reported result ≡ host_which key sealed.now iv.now labels.now lengths.now }
 {
-    let found = editions::which(cipher_of(key), sealed, iv, labels, lengths);
-    let ended = found.ended;
-    LuossavinFound {
-        answer: report_ended(ended, found.key, 0),
-        found: editions::is_candidate(ended) as u32,
-        place: found.place as u32,
-        start: found.start,
-        length: found.length,
+    let found = editions::which(key.into(), sealed, iv, labels, lengths);
+    let answer = report_found(found, 0);
+    match found.ended {
+        Ok(Some(candidate)) => LuossavinFound {
+            answer,
+            found: 1,
+            place: candidate.place as u32,
+            start: candidate.start,
+            length: candidate.length,
+        },
+        _ => LuossavinFound {
+            answer,
+            found: 0,
+            place: 0,
+            start: 0,
+            length: 0,
+        },
     }
 }

@@ -9,8 +9,9 @@ use Rattle.block.specs.Same.{same}
 use Rattle.block.proofs.Same.{and_left, and_right, same_refl, same_equal}
 use Rattle.padding.specs.Padding.{padding, padded}
 use Rattle.padding.specs.Padding.{last_byte, names_padding, all_padding, unpadded}
-use Rattle.padding.specs.declared.Opened.{Opened}
-use Rattle.padding.specs.declared.Opened.TheVariants.{Done, InvalidLastU8, InvalidPadding}
+use Rattle.std.specs.Prelude.{Result, Ok, Err}
+use Rattle.padding.specs.declared.BadPadding.{BadPadding}
+use Rattle.padding.specs.declared.BadPadding.TheVariants.{InvalidLastU8, InvalidPadding}
 
 pub names_some : (b : ℕ) → 1 ≤ b → b ≤ 16 → names_padding b ≡ true
 unfolding names_padding
@@ -33,8 +34,8 @@ unfolding names_padding
 names_le b e = leb-true b 16 (and_right (leb 1 b) (leb b 16) e)
 
 -- the answer, by whether the last byte names a padding and whether all of it is right
-abbrev pub answered : Bool → Bool → ℕ → Opened
-answered u v k = cond (not u) InvalidLastU8 (cond (not v) InvalidPadding (Done k))
+abbrev pub answered : Bool → Bool → ℕ → Result ℕ BadPadding
+answered u v k = cond (not u) (Err InvalidLastU8) (cond (not v) (Err InvalidPadding) (Ok k))
 
 -- of a block, by the byte at its end and the bytes that it counts
 pub block-unpadded : (p : List ℕ) (u v : Bool) → length p ≡ 16 → names_padding (get_or p 15 0) ≡ u
@@ -59,10 +60,9 @@ padding-of_two a b h k =
     rw (last-of_two a b h, length-append a b, e, drop-append-add a b (length b - last_byte b))
 
 -- the answer, where k bytes stand before
-abbrev pub behind : ℕ → Opened → Opened
-behind k (Done n) = Done (k + n)
-behind k InvalidLastU8 = InvalidLastU8
-behind k InvalidPadding = InvalidPadding
+abbrev pub behind : ℕ → Result ℕ BadPadding → Result ℕ BadPadding
+behind k (Ok n) = Ok (k + n)
+behind k (Err b) = Err b
 
 answered-behind : (u v : Bool) (k n : ℕ) → answered u v (k + n) ≡ behind k (answered u v n)
 answered-behind true true k n = refl
@@ -83,22 +83,22 @@ pub unpadded-behind : (a b : List ℕ) → 16 ≤ length b → unpadded (a ++ b)
 unfolding unpadded
 unpadded-behind a b h = rw (last-of_two a b (omega arith), length-append a b) (behind_by a b (names_padding (last_byte b)) h refl)
 
-accepted_by : (u v : Bool) (k n : ℕ) → answered u v k ≡ Done n → (u ≡ true) × (v ≡ true) × (k ≡ n)
+accepted_by : (u v : Bool) (k n : ℕ) → answered u v k ≡ Ok n → (u ≡ true) × (v ≡ true) × (k ≡ n)
 accepted_by true true k n e = (refl, refl, cc)
 accepted_by true false k n e = let z : ◌≡◌ {A = ℕ} 0 1 = cc in absurd (omega arith)
 accepted_by false v k n e = let z : ◌≡◌ {A = ℕ} 0 1 = cc in absurd (omega arith)
 
 -- an accepted text: its last byte names a padding, all of which is right, and the rest is the message
-accepted : (p : List ℕ) (n : ℕ) → unpadded p ≡ Done n
+accepted : (p : List ℕ) (n : ℕ) → unpadded p ≡ Ok n
     → (names_padding (last_byte p) ≡ true) × (all_padding p ≡ true) × (length p - last_byte p ≡ n)
 unfolding unpadded
 accepted p n e = accepted_by (names_padding (last_byte p)) (all_padding p) (length p - last_byte p) n e
 
-pub unpadded-le : (p : List ℕ) (k : ℕ) → unpadded p ≡ Done k → k ≤ length p
+pub unpadded-le : (p : List ℕ) (k : ℕ) → unpadded p ≡ Ok k → k ≤ length p
 unpadded-le p k e = let g = (accepted p k e).2 in omega arith
 
 -- a padded message gives its length back
-pub padded-unpadded : (d : List ℕ) → unpadded (padded d) ≡ Done (length d)
+pub padded-unpadded : (d : List ℕ) → unpadded (padded d) ≡ Ok (length d)
 unfolding unpadded all_padding
 padded-unpadded d =
     let k = 16 - length d % 16 in
@@ -119,7 +119,7 @@ padded-unpadded d =
     )
 
 -- and a text that gives a length is that much of it, padded
-pub unpadded-padded : (p : List ℕ) (n : ℕ) → length p % 16 ≡ 0 → unpadded p ≡ Done n → padded (take n p) ≡ p
+pub unpadded-padded : (p : List ℕ) (n : ℕ) → length p % 16 ≡ 0 → unpadded p ≡ Ok n → padded (take n p) ≡ p
 unfolding all_padding
 unpadded-padded p n h e =
     let b = last_byte p in

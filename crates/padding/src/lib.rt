@@ -12,19 +12,13 @@ pub fn pad(rest: &[u8]) -> [u8; 16]
     ensures { result ≡ padded rest.now }
 {
     let mut last = [(16 - rest.len()) as u8; 16];
-    let mut i: usize = 0;
-    while i < rest.len() {
-        last[i] = rest[i];
-        i += 1;
-    }
+    last[..rest.len()].copy_from_slice(rest);
     last
 }
 
-// What opening answers: the length of the message, that the last byte names no padding, or that another byte of the padding
-// that it names differs from it.
-#[derive(Clone, Copy)]
-pub enum Opened {
-    Done(usize),
+// Why a decrypted text opens to no message: its last byte names no padding, or another byte of the padding that it names differs from it.
+#[derive(Clone, Copy, PartialEq, Eq, Debug)]
+pub enum BadPadding {
     InvalidLastU8,
     InvalidPadding,
 }
@@ -35,27 +29,21 @@ fn all_padding(last: [u8; 16], n: usize) -> bool
     ensures { result ≡ same (drop (16 - n) last) (replicate n n) }
 {
     let mut differ: usize = 0;
-    for i in 0..16 {
+    for (i, &byte) in last.iter().enumerate() {
         // 1 at a byte of the padding, 0 before it
         let counts = (i + n) / 16;
-        differ += counts * (last[i] as usize ^ n);
+        differ += counts * (usize::from(byte) ^ n);
     }
     differ == 0
 }
 
 // The decision over the padding: how much of the last decrypted block belongs to the message.
-pub fn unpad(last: [u8; 16]) -> Opened
+pub fn unpad(last: [u8; 16]) -> Result<usize, BadPadding>
     ensures { result ≡ unpadded last }
 {
-    let b = last[15];
-    match b {
-        1..=16 => {
-            let n = b as usize;
-            if !all_padding(last, n) {
-                return Opened::InvalidPadding;
-            }
-            Opened::Done(16 - n)
-        }
-        _ => Opened::InvalidLastU8,
+    match last[15] {
+        n @ 1..=16 if all_padding(last, usize::from(n)) => Ok(16 - usize::from(n)),
+        1..=16 => Err(BadPadding::InvalidPadding),
+        _ => Err(BadPadding::InvalidLastU8),
     }
 }

@@ -1,5 +1,5 @@
 -- Ctr in pieces, cut anywhere, is the single call's: what the pieces give is what their join gives.
-use Rattle.pieces.proofs.Names.{Ctr, CtrCounting, CtrKind, CtrMode, Direction, List, Passed, Sm4Cipher, [], ◌++◌, ◌+◌, ◌≡◌, ◌≤◌}
+use Rattle.pieces.proofs.Names.{Ctr, CtrCounting, CtrKind, CtrMode, Direction, List, Ok, Sm4Cipher, [], ◌++◌, ◌+◌, ◌≡◌, ◌≤◌}
 use Rattle.pieces.proofs.Names.{add-zero, arith, blocks_of, chain, ctr_after, ctr_came_round, ctr_end, ctr_piece, ctr_shut, ctr_start, drop}
 use Rattle.pieces.proofs.Names.{ended, finished, key_and_iv, key_number, length, length-append, limit, over, stream_mode, telling, under}
 use Rattle.pieces.proofs.Names.{ℕ}
@@ -8,7 +8,7 @@ use Rattle.pieces.proofs.Passing.{running_passes, writing_passes}
 use Rattle.pieces.proofs.Stepping.{step}
 
 -- a start that passes stands before the first byte
-pub ctr_started : (dir : Direction) (c : Sm4Cipher) (iv : List ℕ) → key_and_iv c.answer c.retired dir CtrMode (length iv) ≡ Passed
+pub ctr_started : (dir : Direction) (c : Sm4Cipher) (iv : List ℕ) → key_and_iv c.answer c.retired dir CtrMode (length iv) ≡ Ok tt
     → ctr_start dir c iv ≡ step Ctr (under (key_number c) (finished 0)) [] (ctr_after (key_number c) c.engine c.rk iv [])
 unfolding ctr_start
 ctr_started dir c iv e = rw e

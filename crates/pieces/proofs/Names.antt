@@ -1,14 +1,13 @@
 -- The names from outside this crate's proofs that they use, each with the module that has it.
-pub use lib.Seq.{get_or-append-add, get_or-drop, take-append-add, take-take}
-pub use Rattle.block.proofs.Base.{Bool, Fits, List, get_or-eq_default, [], ◌%◌, ◌*◌, ◌++◌, ◌+◌, ◌-◌, ◌/◌, ◌<◌, ◌^◌, ◌∙◌, ◌∷◌, ◌≡◌, ◌≤◌}
-pub use Rattle.block.proofs.Base.{add-zero, ap, append_assoc, append-nil, ap₂, arith, cond, drop, drop-append-add, drop_at}
-pub use Rattle.block.proofs.Base.{drop_of_length-le, eq-eqb, eqb, eqb-true, false, get_or, get_or-take, le-ltb, length, length-append}
-pub use Rattle.block.proofs.Base.{length-drop, length-set, length-take-le, lit<, lt-ltb, ltb, ltb-false, ltb-true, min, mod-eq_of_lt}
-pub use Rattle.block.proofs.Base.{mod-lt, ne_eqb, rules, not, refl, replicate, set, sub-zero, suc, sym, take, take_all}
+pub use lib.Seq.{take-append-add, take-take}
+pub use Rattle.block.proofs.Base.{Bool, Fits, List, [], ◌%◌, ◌*◌, ◌++◌, ◌+◌, ◌-◌, ◌/◌, ◌<◌, ◌^◌, ◌∙◌, ◌∷◌, ◌≡◌, ◌≤◌}
+pub use Rattle.block.proofs.Base.{add-zero, ap, append_assoc, append-nil, arith, cond, drop, drop-append-add, drop_at}
+pub use Rattle.block.proofs.Base.{drop_of_length-le, eq-eqb, eqb, eqb-true, false, get_or, le-ltb, length, length-append}
+pub use Rattle.block.proofs.Base.{length-drop, length-take-le, lit<, lt-ltb, ltb, ltb-false, ltb-true, min, mod-eq_of_lt}
+pub use Rattle.block.proofs.Base.{mod-lt, rules, not, refl, replicate, suc, sym, take, take_all}
 pub use Rattle.block.proofs.Base.{take-append-drop, take-append-le, take_at, true, w32, w64, w8, zero, ℕ}
 pub use Rattle.block.proofs.Convert.{bytes_of-bytes, bytes_of-number_of, length-bytes_of, number_of-bytes_of}
 pub use Rattle.block.proofs.Entries.{below_each}
-pub use Rattle.block.proofs.Fill.{copy_turn, xor_turn}
 pub use Rattle.block.proofs.Tails.{over-behind, tail_is}
 pub use Rattle.block.proofs.WordsBack.{length-words, unwords-number, unwords-words, unwords-xors}
 pub use Rattle.block.proofs.Xors.{xors_comm}
@@ -32,7 +31,7 @@ pub use Rattle.cipher_mode.specs.declared.Direction.TheVariants.{Decrypt, Encryp
 pub use Rattle.cipher_mode.specs.declared.KeyAnswer.{KeyAnswer}
 pub use Rattle.cipher_mode.specs.declared.Sm4Cipher.{Sm4Cipher}
 pub use Rattle.cipher_mode.specs.declared.answer.Refusal.TheVariants.{Ended, ErrorBlockSize, Retired, TooLong, WrongIv, WrongNumber}
-pub use Rattle.cipher_mode.specs.declared.checks.Checked.TheVariants.{Passed, Refused}
+pub use Rattle.std.proofs.Common.{Ok, Err}
 pub use Rattle.counter.proofs.Steps.{last-four}
 pub use Rattle.counter.specs.CameRound.{blocks_of, ctr_came_round}
 pub use Rattle.counter.specs.Counter.{gcm_next}
@@ -42,7 +41,7 @@ pub use Rattle.gcm.proofs.Parts.{length-text, parts-tag, parts-text}
 pub use Rattle.gcm.specs.Gcm.{J0, hash_key}
 unfoldable pub use Rattle.gcm.specs.Gcm.{opens_under, tag_of, text_of}
 pub use Rattle.ghash.proofs.Absorbing.{absorbed_both}
-pub use Rattle.ghash.proofs.Blocks.{blocks-append, blocks-nil, get_or-before-zeros}
+pub use Rattle.ghash.proofs.Blocks.{blocks-append, blocks-nil}
 pub use Rattle.ghash.proofs.Join.{ghash-lt, hash-append, hash_from-lt}
 pub use Rattle.ghash.specs.Ghash.{Hashable, blocks, ghash, length_block}
 unfoldable pub use Rattle.ghash.specs.Ghash.{auth_blocks, hash_from}

@@ -1,5 +1,5 @@
 -- Opening in pieces, cut anywhere, answers as the single call does: yes exactly where the joined pieces open with the tag.
-use Rattle.pieces.proofs.Names.{Decrypt, Head, J0, List, Opens, Passed, Sm4Cipher, [], ◌++◌, ◌+◌, ◌≡◌, ◌≤◌, add-zero, cond, ended}
+use Rattle.pieces.proofs.Names.{Decrypt, Head, J0, List, Opens, Ok, Sm4Cipher, [], ◌++◌, ◌+◌, ◌≡◌, ◌≤◌, add-zero, cond, ended}
 use Rattle.pieces.proofs.Names.{finished, gcm_round, gcm_starting, hash_key, hash_key-lt, key_number, length, length-append, limit}
 use Rattle.pieces.proofs.Names.{opens_after, opens_end, opens_piece, opens_shut, opens_start, opens_under, parts-tag, parts-text, refusal}
 use Rattle.pieces.proofs.Names.{tag_of, telling, under, ℕ}
@@ -8,7 +8,7 @@ use Rattle.pieces.proofs.Passing.{running_passes, tagged_passes}
 use Rattle.pieces.proofs.Stepping.{step}
 
 -- a start that passes stands before the first byte
-pub opens_started : (c : Sm4Cipher) (label iv : List ℕ) → gcm_starting c.answer c.retired Decrypt (length iv) (length label) ≡ Passed
+pub opens_started : (c : Sm4Cipher) (label iv : List ℕ) → gcm_starting c.answer c.retired Decrypt (length iv) (length label) ≡ Ok tt
     → opens_start c label iv ≡ step Opens (under (key_number c) (finished 0)) [] (opens_after (key_number c) c.rk label iv [])
 unfolding opens_start
 opens_started c label iv e = rw e

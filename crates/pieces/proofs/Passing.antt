@@ -1,5 +1,5 @@
 -- What is known where the checks of a piece or of an end passed, and that a state that stands at 0 passes.
-use Rattle.pieces.proofs.Names.{Bool, Direction, Ended, ErrorBlockSize, Fits, Hashable, KeyAnswer, Passed, Refused, Retired, TooLong}
+use Rattle.pieces.proofs.Names.{Bool, Direction, Ended, ErrorBlockSize, Fits, Hashable, KeyAnswer, Ok, Err, Retired, TooLong}
 use Rattle.pieces.proofs.Names.{WrongIv, WrongNumber, ◌+◌, ◌≡◌, ◌≤◌, arith, both, cond, eq-eqb, eqb, eqb-true, false, gcm_starting}
 use Rattle.pieces.proofs.Names.{key-and-iv_passed, key_and_iv, label_passed, le-ltb, let_through, limit, ltb, ltb-false, not, refl}
 use Rattle.pieces.proofs.Names.{refuse, running, sixteen, standing, tagged, true, w64, writing, wrong_iv, ℕ}
@@ -24,7 +24,7 @@ pub record GcmStarts (iv label : ℕ) : Type 0 where
   pub labelled : label ≤ limit
 
 pub starting_passed : (a : KeyAnswer) (retired : Bool) (dir : Direction) (iv label : ℕ)
-    → gcm_starting a retired dir iv label ≡ Passed → GcmStarts iv label
+    → gcm_starting a retired dir iv label ≡ Ok tt → GcmStarts iv label
 unfolding gcm_starting
 starting_passed a retired dir iv label e =
     let from_key = both (key_and_iv a retired dir Gcm iv) _ e in
@@ -32,9 +32,9 @@ starting_passed a retired dir iv label e =
 
 -- every mark but 0 is refused
 not-refused : (t a b d f g : Bool)
-    → cond t Passed
-    (refuse a ErrorBlockSize (refuse b TooLong (refuse d WrongIv (refuse f WrongNumber (refuse g Retired (Refused Ended))))))
-    ≡ Passed → t ≡ true
+    → cond t (Ok tt)
+    (refuse a ErrorBlockSize (refuse b TooLong (refuse d WrongIv (refuse f WrongNumber (refuse g Retired (Err Ended))))))
+    ≡ Ok tt → t ≡ true
 not-refused true a b d f g e = refl
 not-refused false a b d f g e =
     let third = (let_through d _ _ (let_through b _ _ (let_through a _ _ e).rest).rest).rest in
@@ -42,7 +42,7 @@ not-refused false a b d f g e =
     let z : ◌≡◌ {A = ℕ} 0 1 = cc in absurd (omega arith)
 
 module _ (mark label total : ℕ) where
-  pub running_passed : (n : ℕ) → running mark label total n ≡ Passed → Runs mark label total n
+  pub running_passed : (n : ℕ) → running mark label total n ≡ Ok tt → Runs mark label total n
   unfolding running standing
   running_passed n e =
       let from-mark = both (standing mark) _ e in
@@ -55,13 +55,13 @@ module _ (mark label total : ℕ) where
         within = ltb-false limit (total + n) (let_through (ltb limit (total + n)) _ _ from-label.rest).fails;
       }
 
-  pub writing_passed : (n written room : ℕ) → writing mark label total n written room ≡ Passed → Runs mark label total n × (written ≤ room)
+  pub writing_passed : (n written room : ℕ) → writing mark label total n written room ≡ Ok tt → Runs mark label total n × (written ≤ room)
   unfolding writing
   writing_passed n written room e =
       let from-state = both (running mark label total n) _ e in
       (running_passed n from-state.0, ltb-false room written (let_through (ltb room written) _ _ from-state.1).fails)
 
-  pub tagged_passed : (tag : ℕ) → tagged mark label total tag ≡ Passed → Runs mark label total 0 × (tag ≡ 16)
+  pub tagged_passed : (tag : ℕ) → tagged mark label total tag ≡ Ok tt → Runs mark label total 0 × (tag ≡ 16)
   unfolding tagged
   tagged_passed tag e =
       let from-state = both (running mark label total 0) _ e in
@@ -69,14 +69,14 @@ module _ (mark label total : ℕ) where
 
 -- and the other way round
 module _ (label total : ℕ) (labelled : label ≤ limit) where
-  pub running_passes : (n : ℕ) → total + n ≤ limit → running 0 label total n ≡ Passed
+  pub running_passes : (n : ℕ) → total + n ≤ limit → running 0 label total n ≡ Ok tt
   unfolding running standing
   running_passes n h = rw (le-ltb limit label labelled, le-ltb limit (total + n) h)
 
-  pub writing_passes : (n written room : ℕ) → total + n ≤ limit → written ≤ room → writing 0 label total n written room ≡ Passed
+  pub writing_passes : (n written room : ℕ) → total + n ≤ limit → written ≤ room → writing 0 label total n written room ≡ Ok tt
   unfolding writing
   writing_passes n written room h k = rw (running_passes n h, le-ltb room written k)
 
-  pub tagged_passes : (tag : ℕ) → total + 0 ≤ limit → tag ≡ 16 → tagged 0 label total tag ≡ Passed
+  pub tagged_passes : (tag : ℕ) → total + 0 ≤ limit → tag ≡ 16 → tagged 0 label total tag ≡ Ok tt
   unfolding tagged
   tagged_passes tag h k = rw (running_passes 0 h, eq-eqb tag 16 k)

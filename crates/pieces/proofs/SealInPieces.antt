@@ -1,5 +1,5 @@
 -- Sealing in pieces, cut anywhere, is the single call's: what the pieces give is the ciphertext of their join, and the end its tag.
-use Rattle.pieces.proofs.Names.{Encrypt, GcmCounting, J0, List, Passed, Seal, Sm4Cipher, [], ◌%◌, ◌++◌, ◌+◌, ◌≡◌, ◌≤◌, add-zero}
+use Rattle.pieces.proofs.Names.{Encrypt, GcmCounting, J0, List, Ok, Seal, Sm4Cipher, [], ◌%◌, ◌++◌, ◌+◌, ◌≡◌, ◌≤◌, add-zero}
 use Rattle.pieces.proofs.Names.{drop, ended, finished, flow_after, flow_text, gcm_next, gcm_round, gcm_starting, hash_key, hash_key-lt}
 use Rattle.pieces.proofs.Names.{key_number, length, length-append, length-text, limit, over, seal_after, seal_end, seal_piece, seal_shut}
 use Rattle.pieces.proofs.Names.{seal_start, sym, tag_of, telling, text_of, under, ℕ}
@@ -9,7 +9,7 @@ use Rattle.pieces.proofs.Passing.{writing_passes}
 use Rattle.pieces.proofs.Stepping.{step}
 
 -- a start that passes stands before the first byte
-pub seal_started : (c : Sm4Cipher) (label iv : List ℕ) → gcm_starting c.answer c.retired Encrypt (length iv) (length label) ≡ Passed
+pub seal_started : (c : Sm4Cipher) (label iv : List ℕ) → gcm_starting c.answer c.retired Encrypt (length iv) (length label) ≡ Ok tt
     → seal_start c label iv ≡ step Seal (under (key_number c) (finished 0)) [] (seal_after (key_number c) c.engine c.rk label iv [])
 unfolding seal_start
 seal_started c label iv e = rw e

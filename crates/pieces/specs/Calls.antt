@@ -1,5 +1,5 @@
 -- The calls: what each one leaves, from the inputs alone, whatever the state's fields hold.
-use Rattle.std.specs.Prelude.{ℕ, ◌+◌, ◌%◌, cond, List, [], length}
+use Rattle.std.specs.Prelude.{ℕ, ◌+◌, ◌%◌, cond, List, [], length, Ok, Err}
 use Rattle.block.specs.Same.{same}
 use Rattle.block.specs.Xor.{xors}
 use Rattle.counter.specs.CameRound.{blocks_of, ctr_came_round, gcm_came_round}
@@ -9,19 +9,15 @@ use Rattle.cipher_mode.specs.declared.CipherMode.TheVariants.{Ctr as CtrMode}
 use Rattle.cipher_mode.specs.declared.Direction.{Direction}
 use Rattle.cipher_mode.specs.declared.Direction.TheVariants.{Encrypt, Decrypt}
 use Rattle.cipher_mode.specs.declared.Sm4Cipher.{Sm4Cipher}
-use Rattle.cipher_mode.specs.declared.checks.Checked.{Checked}
-use Rattle.cipher_mode.specs.declared.checks.Checked.TheVariants.{Passed, Refused}
 use Rattle.cipher_mode.specs.declared.answer.Refusal.TheVariants.{Ended}
 use Rattle.cipher_mode.specs.Answer.{refusal_head, head_of}
 use Rattle.cipher_mode.specs.Key.{key_number}
-use Rattle.cipher_mode.specs.Checks.{key_and_iv}
+use Rattle.cipher_mode.specs.Checks.{Checked, key_and_iv}
 use Rattle.pieces.specs.declared.flow.Counting.TheVariants.{Ctr as CtrCounting, Gcm as GcmCounting}
 use Rattle.pieces.specs.declared.ctr.Ctr.{Ctr}
-use Rattle.pieces.specs.declared.ctr.CtrStep.{CtrStep}
 use Rattle.pieces.specs.declared.opens.Opens.{Opens}
-use Rattle.pieces.specs.declared.opens.OpensStep.{OpensStep}
 use Rattle.pieces.specs.declared.seal.Seal.{Seal}
-use Rattle.pieces.specs.declared.seal.SealStep.{SealStep}
+use Rattle.pieces.specs.declared.Step.{Step}
 use Rattle.pieces.specs.Flow.{flow_text, flow_next}
 use Rattle.pieces.specs.Hashing.{hash_next, hash_end}
 use Rattle.pieces.specs.Checks.{gcm_starting, running, writing, tagged}
@@ -35,14 +31,8 @@ pub record Stepped (S : Type 0) : Type 0 where
   pub state : S
 
 -- what a step and the output o are together
-abbrev pub ctr_stepped : CtrStep → List ℕ → Stepped Ctr
-ctr_stepped r o = record { head = head_of r.answer; bytes = o; state = r.state }
-
-abbrev pub seal_stepped : SealStep → List ℕ → Stepped Seal
-seal_stepped r o = record { head = head_of r.answer; bytes = o; state = r.state }
-
-abbrev pub opens_stepped : OpensStep → List ℕ → Stepped Opens
-opens_stepped r o = record { head = head_of r.answer; bytes = o; state = r.state }
+abbrev pub stepped : {S : Type 0} → Step S → List ℕ → Stepped S
+stepped r o = record { head = head_of r.answer; bytes = o; state = r.state }
 
 -- the same step, on the key of number k
 abbrev pub step_on : (S : Type 0) → ℕ → Stepped S → Stepped S
@@ -54,13 +44,13 @@ ended = (refusal_head Ended).number
 
 -- a start: a refused one gives a state that every call refuses by the same number
 abbrev pub begun : (S : Type 0) → Checked → (ℕ → S) → S → Stepped S
-begun S Passed shut s = record { head = finished 0; bytes = []; state = s }
-begun S (Refused r) shut s = record { head = refusal_head r; bytes = []; state = shut (refusal_head r).number }
+begun S (Ok _) shut s = record { head = finished 0; bytes = []; state = s }
+begun S (Err r) shut s = record { head = refusal_head r; bytes = []; state = shut (refusal_head r).number }
 
 -- a piece or an end: a refusal leaves the output o and the state s as they came
 abbrev pub goes_on : (S : Type 0) → Checked → List ℕ → S → Stepped S → Stepped S
-goes_on S Passed o s next = next
-goes_on S (Refused r) o s next = record { head = refusal_head r; bytes = o; state = s }
+goes_on S (Ok _) o s next = next
+goes_on S (Err r) o s next = record { head = refusal_head r; bytes = o; state = s }
 
 -- encryption and decryption differ in what a retired key may start
 unfoldable pub ctr_start : Direction → Sm4Cipher → List ℕ → Stepped Ctr

@@ -1,16 +1,15 @@
 // Ctr in pieces, either way.
 ghost use Rattle.std.specs.Prelude.{◌≡◌, []};
 ghost use Rattle.pieces.specs.States.{ctr_shut};
-ghost use Rattle.pieces.specs.Calls.{ctr_stepped, ctr_start, ctr_piece, ctr_end};
+ghost use Rattle.pieces.specs.Calls.{stepped, ctr_start, ctr_piece, ctr_end};
 
 use crate::flow::{Counting, Flow};
-use crate::{checks, flow};
-use cipher_mode::answer::Answer;
-use cipher_mode::checks::Checked;
+use crate::{Shut, Step, checks, flow, not_begun, unmoved};
+use cipher_mode::answer::Refusal;
 use cipher_mode::{CipherMode, Direction, Sm4Cipher, answer};
 
 // The round keys, the flow, the first counter, and how many bytes went through; 0, or what every call answers; the key's number
-// and the mark of its engine. A host in C hands it in and out.
+// and the mark of its engine. A host in C hands it in and out: so `stands` and `engine` are numbers.
 #[repr(C)]
 #[derive(Clone, Copy)]
 pub struct Ctr {
@@ -23,51 +22,43 @@ pub struct Ctr {
     pub engine: u8,
 }
 
-#[derive(Clone, Copy)]
-pub struct CtrStep {
-    pub answer: Answer,
-    pub state: Ctr,
-}
+impl Shut for Ctr {
+    ghost shut_state = { ctr_shut };
 
-// The state of no message.
-fn shut(key: u16, stands: u32) -> Ctr
-    ensures { result ≡ ctr_shut key stands }
-{
-    Ctr {
-        rk: [0u32; 32],
-        flow: flow::none(),
-        first: [0u8; 16],
-        total: 0,
-        stands,
-        key,
-        engine: 0,
+    #[tactic(auto, unfolding(crate::specs::States::ctr_shut))]
+    fn shut(key: u16, stands: u32) -> Ctr {
+        Ctr {
+            rk: [0; 32],
+            flow: Flow::default(),
+            first: [0; 16],
+            total: 0,
+            stands,
+            key,
+            engine: 0,
+        }
     }
 }
 
 // Key and IV are checked as in the single call of that direction; from here on the two are the same.
-pub fn start(direction: Direction, cipher: Sm4Cipher, iv: &[u8]) -> CtrStep
-    ensures { ctr_stepped result [] ≡ ctr_start direction cipher iv.now }
+#[tactic(auto, unfolding(crate::specs::Calls::ctr_start))]
+pub fn start(direction: Direction, cipher: Sm4Cipher, iv: &[u8]) -> Step<Ctr>
+    ensures { stepped result [] ≡ ctr_start direction cipher iv.now }
 {
-    let stands = cipher.answer;
-    let key = cipher_mode::number_in(stands, cipher.number);
-    let mark = cipher.retired;
+    let key = cipher_mode::number_in(cipher.answer, cipher.number);
     let checked = cipher_mode::checks::key_and_iv(
-        stands,
-        mark,
+        cipher.answer,
+        cipher.retired,
         direction,
         CipherMode::Ctr,
         iv.len(),
     );
-    if let Checked::Refused(refusal) = checked {
-        return CtrStep {
-            answer: answer::refused(key, refusal),
-            state: shut(key, answer::number(refusal)),
-        };
+    if let Err(refusal) = checked {
+        return not_begun(key, refusal);
     }
     let engine = cipher_mode::engine_for(cipher.engine, CipherMode::Ctr, direction);
-    let t = cipher::laid_out(engine);
     let rk = cipher.rk;
-    let flow = flow::begin(cipher::lent(engine, &t), rk, block::split_block(iv));
+    let flow = flow::begin(engine, rk, block::split_block(iv));
+    // A variable, since the borrow checker takes no array out of a field right into a literal.
     let first = flow.counter;
     let state = Ctr {
         rk,
@@ -78,7 +69,7 @@ pub fn start(direction: Direction, cipher: Sm4Cipher, iv: &[u8]) -> CtrStep
         key,
         engine: cipher.engine,
     };
-    CtrStep {
+    Step {
         answer: answer::done(key, 0),
         state,
     }
@@ -86,56 +77,46 @@ pub fn start(direction: Direction, cipher: Sm4Cipher, iv: &[u8]) -> CtrStep
 
 impl Ctr {
     // A piece of any length, to the front of `out`.
-    pub fn piece(self, data: &[u8], out: &mut [u8]) -> CtrStep
-        ensures { ctr_stepped result out.new ≡ ctr_piece self «data».now out.old }
+    #[tactic(auto, unfolding(crate::specs::Calls::ctr_piece))]
+    pub fn piece(self, data: &[u8], out: &mut [u8]) -> Step<Ctr>
+        ensures { stepped result out.new ≡ ctr_piece self «data».now out.old }
     {
-        let key = self.key;
         let n = data.len();
-        let total = self.total;
-        let checked = checks::writing(self.stands, 0, total, n, n, out.len());
-        if let Checked::Refused(refusal) = checked {
-            return CtrStep {
-                answer: answer::refused(key, refusal),
-                state: self,
-            };
+        if let Err(refusal) = checks::writing(self.stands, 0, self.total, n, n, out.len()) {
+            return unmoved(self.key, refusal, self);
         }
-        let mark = self.engine;
-        let rk = self.rk;
-        let flow = self.flow;
-        let first = self.first;
-        let next = flow::run_by(mark, rk, Counting::Ctr, flow, total % 16, data, out);
-        let state = Ctr {
-            rk,
-            flow: next,
-            first,
-            total: total + n,
-            stands: 0,
-            key,
-            engine: mark,
-        };
-        CtrStep {
-            answer: answer::done(key, n),
-            state,
+        let flow = flow::run(
+            cipher_mode::engine_for(self.engine, CipherMode::Ctr, Direction::Encrypt),
+            self.rk,
+            Counting::Ctr,
+            self.flow,
+            self.total % 16,
+            data,
+            out,
+        );
+        Step {
+            answer: answer::done(self.key, n),
+            state: Ctr {
+                flow,
+                total: self.total + n,
+                stands: 0,
+                ..self
+            },
         }
     }
 
     // The end of the message, which tells whether its counter came round. Nothing is kept.
-    pub fn end(self) -> CtrStep
-        ensures { ctr_stepped result [] ≡ ctr_end self }
+    #[tactic(auto, unfolding(crate::specs::Calls::ctr_end))]
+    pub fn end(self) -> Step<Ctr>
+        ensures { stepped result [] ≡ ctr_end self }
     {
-        let key = self.key;
-        let checked = checks::running(self.stands, 0, self.total, 0);
-        if let Checked::Refused(refusal) = checked {
-            return CtrStep {
-                answer: answer::refused(key, refusal),
-                state: self,
-            };
+        if let Err(refusal) = checks::running(self.stands, 0, self.total, 0) {
+            return unmoved(self.key, refusal, self);
         }
-        let first = self.first;
-        let came_round = counter::ctr_came_round(block::split_block(&first), self.total);
-        CtrStep {
-            answer: answer::done_round(key, 0, came_round),
-            state: shut(key, 12),
+        let came_round = counter::ctr_came_round(block::split_block(&self.first), self.total);
+        Step {
+            answer: answer::done_round(self.key, 0, came_round),
+            state: Ctr::shut(self.key, answer::number(Refusal::Ended)),
         }
     }
 }

@@ -3,16 +3,15 @@ ghost use Rattle.std.specs.Prelude.{◌≡◌, [], length};
 ghost use Rattle.block.specs.Same.{same};
 ghost use Rattle.block.specs.Xor.{xors};
 ghost use Rattle.pieces.specs.States.{opens_shut};
-ghost use Rattle.pieces.specs.Calls.{opens_stepped, opens_start, opens_piece, opens_end};
+ghost use Rattle.pieces.specs.Calls.{stepped, opens_start, opens_piece, opens_end};
 
 use crate::hashing::Hashing;
-use crate::{checks, hashing, tagging};
-use cipher_mode::answer::{Answer, Refusal};
-use cipher_mode::checks::Checked;
+use crate::{Shut, Step, checks, not_begun, tagging, unmoved};
+use cipher_mode::answer::Refusal;
 use cipher_mode::{CipherMode, Direction, Sm4Cipher, answer};
 
 // The hash, the cipher of J0, the lengths and the number in J0's last four bytes; 0, or what every call answers; the key's number. The
-// round keys are needed no more.
+// round keys are needed no more. A host in C hands it in and out: so `stands` is a number.
 #[repr(C)]
 #[derive(Clone, Copy)]
 pub struct Opens {
@@ -25,49 +24,46 @@ pub struct Opens {
     pub key: u16,
 }
 
-#[derive(Clone, Copy)]
-pub struct OpensStep {
-    pub answer: Answer,
-    pub state: Opens,
-}
+impl Shut for Opens {
+    ghost shut_state = { opens_shut };
 
-// The state of no message.
-fn shut(key: u16, stands: u32) -> Opens
-    ensures { result ≡ opens_shut key stands }
-{
-    Opens {
-        hashing: hashing::none(),
-        mask: [0u8; 16],
-        label: 0,
-        total: 0,
-        low: 0,
-        stands,
-        key,
+    #[tactic(auto, unfolding(crate::specs::States::opens_shut))]
+    fn shut(key: u16, stands: u32) -> Opens {
+        Opens {
+            hashing: Hashing::default(),
+            mask: [0; 16],
+            label: 0,
+            total: 0,
+            low: 0,
+            stands,
+            key,
+        }
     }
 }
 
-// Key, IV and label are checked as in the single call.
-pub fn start(cipher: Sm4Cipher, aad: &[u8], iv: &[u8]) -> OpensStep
-    ensures { opens_stepped result [] ≡ opens_start cipher aad.now iv.now }
+// Key, IV and label are checked as in the single call. It goes as `seal::start` does but for the direction and the state; what the two
+// share beyond the checks stands in `tagging::begin`.
+#[tactic(auto, unfolding(crate::specs::Calls::opens_start, crate::specs::States::opens_after))]
+pub fn start(cipher: Sm4Cipher, aad: &[u8], iv: &[u8]) -> Step<Opens>
+    ensures { stepped result [] ≡ opens_start cipher aad.now iv.now }
 {
-    let stands = cipher.answer;
-    let key = cipher_mode::number_in(stands, cipher.number);
-    let mark = cipher.retired;
-    let checked = checks::gcm_start(stands, mark, Direction::Decrypt, iv.len(), aad.len());
-    if let Checked::Refused(refusal) = checked {
-        return OpensStep {
-            answer: answer::refused(key, refusal),
-            state: shut(key, answer::number(refusal)),
-        };
+    let key = cipher_mode::number_in(cipher.answer, cipher.number);
+    let checked = checks::gcm_start(
+        cipher.answer,
+        cipher.retired,
+        Direction::Decrypt,
+        iv.len(),
+        aad.len(),
+    );
+    if let Err(refusal) = checked {
+        return not_begun(key, refusal);
     }
     let engine = cipher_mode::engine_for(cipher.engine, CipherMode::Gcm, Direction::Decrypt);
-    let t = cipher::laid_out(engine);
-    let rk = cipher.rk;
-    let begun = tagging::begin(cipher::lent(engine, &t), rk, aad, iv);
-    let hashing = begun.hashing;
+    let begun = tagging::begin(engine, cipher.rk, aad, iv);
+    // A variable, since the borrow checker takes no array out of a field right into a literal.
     let mask = begun.mask;
     let state = Opens {
-        hashing,
+        hashing: begun.hashing,
         mask,
         label: aad.len(),
         total: 0,
@@ -75,7 +71,7 @@ pub fn start(cipher: Sm4Cipher, aad: &[u8], iv: &[u8]) -> OpensStep
         stands: 0,
         key,
     };
-    OpensStep {
+    Step {
         answer: answer::done(key, 0),
         state,
     }
@@ -92,65 +88,44 @@ fn same_tag(tag: &[u8], mask: [u8; 16], hash: [u8; 16]) -> bool
 
 impl Opens {
     // A piece of the ciphertext.
-    pub fn piece(self, data: &[u8]) -> OpensStep
-        ensures { opens_stepped result [] ≡ opens_piece self «data».now }
+    #[tactic(auto, unfolding(crate::specs::Calls::opens_piece))]
+    pub fn piece(self, data: &[u8]) -> Step<Opens>
+        ensures { stepped result [] ≡ opens_piece self «data».now }
     {
-        let key = self.key;
         let n = data.len();
-        let total = self.total;
-        let label = self.label;
-        let checked = checks::running(self.stands, label, total, n);
-        if let Checked::Refused(refusal) = checked {
-            return OpensStep {
-                answer: answer::refused(key, refusal),
-                state: self,
-            };
+        if let Err(refusal) = checks::running(self.stands, self.label, self.total, n) {
+            return unmoved(self.key, refusal, self);
         }
-        let begun = self.hashing;
-        let mask = self.mask;
-        let state = Opens {
-            hashing: hashing::take_in(begun, total % 16, data),
-            mask,
-            label,
-            total: total + n,
-            low: self.low,
-            stands: 0,
-            key,
-        };
-        OpensStep {
-            answer: answer::done(key, 0),
-            state,
+        Step {
+            answer: answer::done(self.key, 0),
+            state: Opens {
+                hashing: self.hashing.take_in(self.total % 16, data),
+                total: self.total + n,
+                stands: 0,
+                ..self
+            },
         }
     }
 
     // The end: 0 where the message opens with this tag, and whether the counter came round; otherwise 4. Either way nothing is kept.
-    pub fn end(self, tag: &[u8]) -> OpensStep
-        ensures { opens_stepped result [] ≡ opens_end self tag.now }
+    #[tactic(auto, unfolding(crate::specs::Calls::opens_end))]
+    pub fn end(self, tag: &[u8]) -> Step<Opens>
+        ensures { stepped result [] ≡ opens_end self tag.now }
     {
-        let key = self.key;
         let total = self.total;
         let label = self.label;
-        let checked = checks::tagged(self.stands, label, total, tag.len());
-        if let Checked::Refused(refusal) = checked {
-            return OpensStep {
-                answer: answer::refused(key, refusal),
-                state: self,
-            };
+        if let Err(refusal) = checks::tagged(self.stands, label, total, tag.len()) {
+            return unmoved(self.key, refusal, self);
         }
-        let mask = self.mask;
-        let begun = self.hashing;
-        let hash = hashing::end(begun, total % 16, label, total);
-        let state = shut(key, 12);
-        if same_tag(tag, mask, hash) {
-            let came_round = counter::gcm_came_round(self.low, total);
-            return OpensStep {
-                answer: answer::done_round(key, 0, came_round),
-                state,
-            };
-        }
-        OpensStep {
-            answer: answer::refused(key, Refusal::InvalidTag),
-            state,
+        let hash = self.hashing.end(total % 16, label, total);
+        let answer = if same_tag(tag, self.mask, hash) {
+            answer::done_round(self.key, 0, counter::gcm_came_round(self.low, total))
+        } else {
+            answer::refused(self.key, Refusal::InvalidTag)
+        };
+        Step {
+            answer,
+            state: Opens::shut(self.key, answer::number(Refusal::Ended)),
         }
     }
 }

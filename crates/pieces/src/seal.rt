@@ -1,17 +1,17 @@
 // Gcm sealing in pieces: the ciphertext of each as it comes, and the tag at the end.
 ghost use Rattle.std.specs.Prelude.{◌≡◌, []};
 ghost use Rattle.pieces.specs.States.{seal_shut};
-ghost use Rattle.pieces.specs.Calls.{seal_stepped, seal_start, seal_piece, seal_end};
+ghost use Rattle.pieces.specs.Calls.{stepped, seal_start, seal_piece, seal_end};
 
 use crate::flow::{Counting, Flow};
 use crate::hashing::Hashing;
-use crate::{checks, flow, hashing, tagging};
-use cipher_mode::answer::Answer;
-use cipher_mode::checks::Checked;
+use crate::{Shut, Step, checks, flow, not_begun, tagging, unmoved};
+use cipher_mode::answer::Refusal;
 use cipher_mode::{CipherMode, Direction, Sm4Cipher, answer};
 
 // The round keys, the flow, the hash of what was written, the cipher of J0, the lengths and the number in J0's last four bytes; 0, or
-// what every call answers; the key's number and the mark of its engine.
+// what every call answers; the key's number and the mark of its engine. A host in C hands it in and out: so `stands` and `engine` are
+// numbers.
 #[repr(C)]
 #[derive(Clone, Copy)]
 pub struct Seal {
@@ -27,57 +27,52 @@ pub struct Seal {
     pub engine: u8,
 }
 
-#[derive(Clone, Copy)]
-pub struct SealStep {
-    pub answer: Answer,
-    pub state: Seal,
-}
+impl Shut for Seal {
+    ghost shut_state = { seal_shut };
 
-// The state of no message.
-fn shut(key: u16, stands: u32) -> Seal
-    ensures { result ≡ seal_shut key stands }
-{
-    Seal {
-        rk: [0u32; 32],
-        flow: flow::none(),
-        hashing: hashing::none(),
-        mask: [0u8; 16],
-        label: 0,
-        total: 0,
-        low: 0,
-        stands,
-        key,
-        engine: 0,
+    #[tactic(auto, unfolding(crate::specs::States::seal_shut))]
+    fn shut(key: u16, stands: u32) -> Seal {
+        Seal {
+            rk: [0; 32],
+            flow: Flow::default(),
+            hashing: Hashing::default(),
+            mask: [0; 16],
+            label: 0,
+            total: 0,
+            low: 0,
+            stands,
+            key,
+            engine: 0,
+        }
     }
 }
 
 // Key, IV and label are checked as in the single call.
-pub fn start(cipher: Sm4Cipher, aad: &[u8], iv: &[u8]) -> SealStep
-    ensures { seal_stepped result [] ≡ seal_start cipher aad.now iv.now }
+#[tactic(auto, unfolding(crate::specs::Calls::seal_start))]
+pub fn start(cipher: Sm4Cipher, aad: &[u8], iv: &[u8]) -> Step<Seal>
+    ensures { stepped result [] ≡ seal_start cipher aad.now iv.now }
 {
-    let stands = cipher.answer;
-    let key = cipher_mode::number_in(stands, cipher.number);
-    let mark = cipher.retired;
-    let checked = checks::gcm_start(stands, mark, Direction::Encrypt, iv.len(), aad.len());
-    if let Checked::Refused(refusal) = checked {
-        return SealStep {
-            answer: answer::refused(key, refusal),
-            state: shut(key, answer::number(refusal)),
-        };
+    let key = cipher_mode::number_in(cipher.answer, cipher.number);
+    let checked = checks::gcm_start(
+        cipher.answer,
+        cipher.retired,
+        Direction::Encrypt,
+        iv.len(),
+        aad.len(),
+    );
+    if let Err(refusal) = checked {
+        return not_begun(key, refusal);
     }
     let engine = cipher_mode::engine_for(cipher.engine, CipherMode::Gcm, Direction::Encrypt);
-    let t = cipher::laid_out(engine);
-    let lent = cipher::lent(engine, &t);
     let rk = cipher.rk;
-    let begun = tagging::begin(lent, rk, aad, iv);
-    let j0 = begun.j0;
-    let hashing = begun.hashing;
+    let begun = tagging::begin(engine, rk, aad, iv);
+    let first = counter::gcm_block_add_one(begun.j0).counter;
+    // A variable, since the borrow checker takes no array out of a field right into a literal.
     let mask = begun.mask;
-    let first = counter::gcm_block_add_one(j0).counter;
     let state = Seal {
         rk,
-        flow: flow::begin(lent, rk, first),
-        hashing,
+        flow: flow::begin(engine, rk, first),
+        hashing: begun.hashing,
         mask,
         label: aad.len(),
         total: 0,
@@ -86,7 +81,7 @@ pub fn start(cipher: Sm4Cipher, aad: &[u8], iv: &[u8]) -> SealStep
         key,
         engine: cipher.engine,
     };
-    SealStep {
+    Step {
         answer: answer::done(key, 0),
         state,
     }
@@ -94,66 +89,52 @@ pub fn start(cipher: Sm4Cipher, aad: &[u8], iv: &[u8]) -> SealStep
 
 impl Seal {
     // A piece of any length, to the front of `out`. What was written is hashed.
-    pub fn piece(self, data: &[u8], out: &mut [u8]) -> SealStep
-        ensures { seal_stepped result out.new ≡ seal_piece self «data».now out.old }
+    #[tactic(auto, unfolding(crate::specs::Calls::seal_piece))]
+    pub fn piece(self, data: &[u8], out: &mut [u8]) -> Step<Seal>
+        ensures { stepped result out.new ≡ seal_piece self «data».now out.old }
     {
-        let key = self.key;
         let n = data.len();
-        let total = self.total;
-        let label = self.label;
-        let checked = checks::writing(self.stands, label, total, n, n, out.len());
-        if let Checked::Refused(refusal) = checked {
-            return SealStep {
-                answer: answer::refused(key, refusal),
-                state: self,
-            };
+        if let Err(refusal) = checks::writing(
+            self.stands,
+            self.label,
+            self.total,
+            n,
+            n,
+            out.len(),
+        ) {
+            return unmoved(self.key, refusal, self);
         }
-        let mark = self.engine;
-        let rk = self.rk;
-        let flow = self.flow;
-        let begun = self.hashing;
-        let mask = self.mask;
-        let next = flow::run_by(mark, rk, Counting::Gcm, flow, total % 16, data, out);
-        let state = Seal {
-            rk,
-            flow: next,
-            hashing: hashing::take_in(begun, total % 16, &out[0..n]),
-            mask,
-            label,
-            total: total + n,
-            low: self.low,
-            stands: 0,
-            key,
-            engine: mark,
-        };
-        SealStep {
-            answer: answer::done(key, n),
-            state,
+        let p = self.total % 16;
+        let engine = cipher_mode::engine_for(self.engine, CipherMode::Gcm, Direction::Encrypt);
+        let flow = flow::run(engine, self.rk, Counting::Gcm, self.flow, p, data, out);
+        Step {
+            answer: answer::done(self.key, n),
+            state: Seal {
+                flow,
+                hashing: self.hashing.take_in(p, &out[..n]),
+                total: self.total + n,
+                stands: 0,
+                ..self
+            },
         }
     }
 
     // The end: the tag, to the front of `out`, and whether the counter came round. Nothing is kept.
-    pub fn end(self, out: &mut [u8]) -> SealStep
-        ensures { seal_stepped result out.new ≡ seal_end self out.old }
+    #[tactic(auto, unfolding(crate::specs::Calls::seal_end))]
+    pub fn end(self, out: &mut [u8]) -> Step<Seal>
+        ensures { stepped result out.new ≡ seal_end self out.old }
     {
-        let key = self.key;
         let total = self.total;
         let label = self.label;
-        let checked = checks::writing(self.stands, label, total, 0, 16, out.len());
-        if let Checked::Refused(refusal) = checked {
-            return SealStep {
-                answer: answer::refused(key, refusal),
-                state: self,
-            };
+        if let Err(refusal) = checks::writing(self.stands, label, total, 0, 16, out.len()) {
+            return unmoved(self.key, refusal, self);
         }
-        let mask = self.mask;
-        let begun = self.hashing;
-        let hash = hashing::end(begun, total % 16, label, total);
-        flow::xor_pad(hash, 0, &mask, out);
+        let hash = self.hashing.end(total % 16, label, total);
+        sixteen::xor_bytes(&hash, &self.mask, out);
         let came_round = counter::gcm_came_round(self.low, total);
-        SealStep {
-            answer: answer::done_round(key, 16, came_round),
-            state: shut(key, 12),
+        Step {
+            answer: answer::done_round(self.key, 16, came_round),
+            state: Seal::shut(self.key, answer::number(Refusal::Ended)),
         }
     }
 }

@@ -1,5 +1,6 @@
 -- What it says of a piece that the pieces from it on follow one another to n, and that the check's test of one piece tells it.
-use Rattle.ranges.proofs.Names.{Bool, List, [], ◌%◌, ◌&&◌, ◌+◌, ◌-◌, ◌<◌, ◌||◌, ◌∙◌, ◌∷◌, ◌≡◌, ◌≢◌, ◌≤◌, add-one, and_left}
+use Rattle.block.proofs.Same.{by_test}
+use Rattle.ranges.proofs.Names.{Bool, List, Plan, [], ◌%◌, ◌&&◌, ◌+◌, ◌-◌, ◌<◌, ◌||◌, ◌∙◌, ◌∷◌, ◌≡◌, ◌≢◌, ◌≤◌, add-one, and_left}
 use Rattle.ranges.proofs.Names.{and_right, arith, by_order, cond, drop, drop-cons, drop_of_length-le, eq-eqb, eqb, eqb-false}
 use Rattle.ranges.proofs.Names.{eqb-true, false, false≢true, follows, get_or, get_or-take, is_last, is_piece, le-leb, leb, leb-true}
 use Rattle.ranges.proofs.Names.{length, length-drop, length-take-le, ne_eqb, not, not-true, refl, sym, take, true, ℕ}
@@ -118,3 +119,42 @@ pub ends : (starts lengths : List ℕ) (count i at n : ℕ) → count ≤ length
 unfolding follows
 ends starts lengths count i at n room past =
     rw (drop_of_length-le (take count starts) {i = i} (omega (arith, length-take-le count starts room)))
+
+-- where the pieces behind one follow to the end, it is the last exactly where it is all that is left
+last-is-all : (at n l : ℕ) (ss ls : List ℕ) → follows (at + l) n ss ls ≡ true → is_last ss ≡ eqb l (n - at)
+unfolding follows
+last-is-all at n l [] ls e = sym (eq-eqb l (n - at) (omega (arith, eqb-true (at + l) n e)))
+last-is-all at n l (s ∷ ss) [] e = absurd (false≢true e)
+last-is-all at n l (s ∷ ss) (m ∷ ls) e =
+    let f = first_piece (at + l) n s m ss ls e in sym (ne_eqb l (n - at) (λ z. f.not-empty (omega (arith, f.inside))))
+
+-- what the check's test of piece i comes to
+module _ (p : Plan) (n i at : ℕ) (room : length p.starts ≡ 64) (room' : length p.lengths ≡ 64) (few : p.count ≤ 64)
+    (inside : i < p.count) (here : at ≤ n) {s l : ℕ} (start : s ≡ get_or p.starts i 0) (long : l ≡ get_or p.lengths i 0) {t : Bool}
+    (test : t ≡ is_piece s l at (n - at) (eqb l (n - at))) where
+  abbrev on : Bool
+  on = follows_from p.starts p.lengths p.count n (i + 1) (at + l)
+
+  -- either test of the last one tells as much, with those behind it
+  either : (u v : Bool) → (on ≡ true → u ≡ v)
+      → cond (is_piece s l at (n - at) u) on false ≡ cond (is_piece s l at (n - at) v) on false
+  either u v f =
+      by_test on (λ e. rw (f e))
+      (λ e.
+      rw e
+      (by_test (is_piece s l at (n - at) u) (λ a. rw a (by_test (is_piece s l at (n - at) v) (λ b. rw b) (λ b. rw b)))
+      (λ a. rw a (by_test (is_piece s l at (n - at) v) (λ b. rw b) (λ b. rw b)))))
+
+  pub decided : follows_from p.starts p.lengths p.count n i at ≡ cond t on false
+  decided =
+      tested p.starts p.lengths p.count i at n (omega arith) (omega arith) inside here
+      ∙ rw (← start, ← long, test)
+      (either (eqb (i + 1) p.count) (eqb l (n - at))
+      (λ e. sym (last p.starts p.lengths p.count i at n (omega arith) (omega arith) inside) ∙ last-is-all at n l _ _ e))
+
+  pub fits : t ≡ true → at + l ≤ n
+  unfolding is_piece
+  fits e =
+      let yes = sym test ∙ e in
+      let f = leb-true l (n - at) (and_left (leb l (n - at)) _ (and_right (not (eqb l 0)) _ (and_right (eqb s at) _ yes))) in
+      omega (arith, f)

@@ -7,6 +7,7 @@ pub mod OwnPlans
 pub mod Places
 pub mod Planner
 pub mod Sharing
+pub mod SideBySide
 pub mod Passed
 pub mod Jumped
 pub mod KeyStream

@@ -1,5 +1,5 @@
 -- The names from outside this crate's proofs that they use, each with the module that has it.
-pub use lib.Seq.{drop-nil}
+pub use lib.Seq.{drop-nil, drop-set-lt}
 pub use mathlib.Core.Bool.{or-true}
 pub use mathlib.Core.HLevel.{hedberg}
 pub use mathlib.Core.List.Perm.{foldr-eq as PermFoldr-eq}
@@ -7,7 +7,7 @@ pub use mathlib.Core.List.{is_set, Perm, foldr}
 pub use native.Mathlib.Decide.{ℕ_discrete}
 pub use native.Mathlib.Nat.{add_assoc, div-add-mod, mul_left_comm, mul-mod_right, suc-mul}
 pub use Rattle.block.proofs.Base.{Bool, List, [], ◌%◌, ◌&&◌, ◌*◌, ◌++◌, ◌+◌, ◌-◌, ◌/◌, ◌<◌, ◌||◌, ◌∙◌, ◌∷◌, ◌≡◌, ◌≢◌, ◌≤◌, add-one}
-pub use Rattle.block.proofs.Base.{add-zero, ap, append_assoc, append-nil, arith, cond, div-le_self, drop, drop_at, drop-cons}
+pub use Rattle.block.proofs.Base.{add-zero, ap, append_assoc, append-nil, arith, cond, div-le_self, drop, drop_at, drop-cons, drop-drop}
 pub use Rattle.block.proofs.Base.{drop_of_length-le, eq-eqb, eqb, eqb-false, eqb-true, false, false≢true, get_or, get_or-take, le-leb, le-ltb}
 pub use Rattle.block.proofs.Base.{leb, leb-true, length, length-append, length-drop, length-replicate, length-set, length-take}
 pub use Rattle.block.proofs.Base.{length-take-le, lit<, lt-leb, lt-ltb, ltb, ltb-false, min, mod-lt, mul-le-mul_right, ne_eqb, rules, not}
@@ -30,7 +30,6 @@ pub use Rattle.cipher_mode.specs.Checks.{key_and_iv}
 pub use Rattle.cipher_mode.specs.Tables.{limit}
 pub use Rattle.cipher_mode.specs.declared.Direction.{Direction}
 pub use Rattle.cipher_mode.specs.declared.KeyAnswer.{KeyAnswer}
-pub use Rattle.cipher_mode.specs.declared.checks.Checked.TheVariants.{Passed}
 pub use Rattle.counter.proofs.JumpSteps.{jump_on, no_jump}
 pub use Rattle.counter.specs.CameRound.{blocks_of}
 pub use Rattle.counter.specs.Counter.{ctr_jump}
@@ -49,11 +48,12 @@ pub use Rattle.walk.proofs.Chain.{chain-block, chain-rest}
 pub use Rattle.walk.specs.Walk.{chain}
 unfoldable pub use Rattle.walk.specs.Walk.{end_state, stepped}
 unfoldable pub use Rattle.ranges.specs.ByPlan.{plan_call}
-pub use Rattle.ranges.specs.Plan.{begins, is_last, length_at, plan_in, plan_of, start_at, without}
+pub use Rattle.ranges.specs.Plan.{begins, is_last, length_at, no_pieces, plan_in, plan_of, start_at}
 unfoldable pub use Rattle.ranges.specs.Plan.{accepts, count_from, follows, is_piece, lengths_from, piece_size, planned, starts_from}
 unfoldable pub use Rattle.ranges.specs.Range.{range_call, range_check, reach_check, stretch}
 pub use Rattle.ranges.specs.Reading.{Piece, Reading}
 pub use Rattle.ranges.specs.Shares.{Share, all_worked, applied, laid_at, share_of, shares, shares_of, worked}
-pub use Rattle.ranges.specs.declared.plan.Making.TheVariants.{BadWorkers, Made, TooLong}
+pub use Rattle.ranges.specs.declared.plan.NotMade.{NotMade}
+pub use Rattle.ranges.specs.declared.plan.NotMade.TheVariants.{BadWorkers, TooLong}
 pub use Rattle.ranges.specs.declared.plan.Plan.{Plan}
-pub use Rattle.ranges.specs.declared.plan.Planned.{Planned}
+pub use Rattle.std.proofs.Common.{Err, Ok, Result}

@@ -1,11 +1,10 @@
 -- A plan for several workers: which plans are accepted, and the plan that is made.
-use Rattle.std.specs.Prelude.{ℕ, zero, suc, ◌+◌, ◌-◌, ◌*◌, ◌/◌, ◌%◌, Bool, true, false, not, ◌&&◌, ◌||◌, cond, List, [], ◌∷◌, eqb, leb, ltb, take, replicate}
+use Rattle.std.specs.Prelude.{ℕ, zero, suc, ◌+◌, ◌-◌, ◌*◌, ◌/◌, ◌%◌, Bool, true, false, not, ◌&&◌, ◌||◌, cond, List, [], ◌∷◌, Result, Ok, Err, eqb, leb, ltb, take, replicate}
 use Rattle.counter.specs.CameRound.{blocks_of}
 use Rattle.cipher_mode.specs.Tables.{limit}
-use Rattle.ranges.specs.declared.plan.Making.{Making}
-use Rattle.ranges.specs.declared.plan.Making.TheVariants.{Made, BadWorkers, TooLong}
+use Rattle.ranges.specs.declared.plan.NotMade.{NotMade}
+use Rattle.ranges.specs.declared.plan.NotMade.TheVariants.{BadWorkers, TooLong}
 use Rattle.ranges.specs.declared.plan.Plan.{Plan}
-use Rattle.ranges.specs.declared.plan.Planned.{Planned}
 
 abbrev pub is_last : List ℕ → Bool
 is_last [] = true
@@ -65,13 +64,9 @@ plan_of n w = plan_in n (piece_size n w)
 abbrev pub no_pieces : Plan
 no_pieces = record { count = 0; starts = replicate 64 0; lengths = replicate 64 0 }
 
--- no plan, and why
-abbrev pub without : Making → Planned
-without m = record { making = m; plan = no_pieces }
-
 -- what the planner answers: a number of workers outside 1 to 64 is told before a length past the limit
-unfoldable pub planned : ℕ → ℕ → Planned
+unfoldable pub planned : ℕ → ℕ → Result Plan NotMade
 planned n w =
-    cond (eqb w 0 || ltb 64 w) (without BadWorkers)
-    (cond (ltb limit n) (without TooLong)
-    (record { making = Made; plan = plan_of n w }))
+    cond (eqb w 0 || ltb 64 w) (Err BadWorkers)
+    (cond (ltb limit n) (Err TooLong)
+    (Ok (plan_of n w)))

@@ -1,8 +1,7 @@
 -- The bytes of blocks in rows, stored one after the other.
-use Rattle.block.proofs.Base.{◌%◌, ◌*◌, ◌+◌, ◌/◌, ◌<◌, ◌^◌, ◌≤◌, ℕ, ◌∙◌, ◌≡◌, ap, ap₂, sym, List, [], ◌++◌, ◌∷◌, append_assoc, add-one}
-use Rattle.block.proofs.Base.{add-two, add-three, div-one, arith, lit<, drop, get_or, length, length-append, length-drop, set, take, drop_at}
-use Rattle.block.proofs.Base.{drop-drop, sets-eq, take_at}
-use native.Mathlib.Numerals.{add-four, add_five, add_six, add_seven}
+use Rattle.block.proofs.Base.{◌*◌, ◌+◌, ◌<◌, ◌^◌, ◌≤◌, ℕ, ◌∙◌, ◌≡◌, ap, ap₂, sym, List, ◌++◌, append_assoc}
+use Rattle.block.proofs.Base.{arith, lit<, drop, get_or, length, length-append, length-drop, take, drop_at}
+use Rattle.block.proofs.Base.{drop-drop, take_at}
 use Rattle.block.specs.Below.{AreBytes}
 use Rattle.block.specs.BigEndian.{bytes_of}
 use Rattle.block.specs.Blocks.{block_at, cat}
@@ -13,25 +12,7 @@ use Rattle.block.proofs.Convert.{length-bytes_of, bytes_of-append, bytes_of-xor}
 use Rattle.block.proofs.Entries.{below_at, below-drop}
 use Rattle.block.proofs.WordsBack.{unwords-front}
 use Rattle.block.proofs.Xors.{length-xors, xors-append}
-use Rattle.lanes.proofs.Filling.{puts}
 use Rattle.rows.specs.Rows.{place, Row, Rows, xored_blocks}
-
--- the bytes of a half behind its first one, as the code takes them out
-abbrev bytes_behind : ℕ → List ℕ
-bytes_behind x =
-    x / 2 ^ 48 % 256 ∷ x / 2 ^ 40 % 256 ∷ x / 2 ^ 32 % 256 ∷ x / 2 ^ 24 % 256 ∷ x / 2 ^ 16 % 256 ∷ x / 2 ^ 8 % 256 ∷ x % 256 ∷ []
-
-eight_bytes : (x : ℕ) → x / 2 ^ 56 % 256 ∷ bytes_behind x ≡ bytes_of 8 x
-unfolding bytes_of
-eight_bytes x = simp div-one
-
-pub half-stored : (o : List ℕ) (p x : ℕ) → p + 8 ≤ length o
-    → puts 1 (set o p (x / 2 ^ 56 % 256)) p 1 (bytes_behind x) ≡ take p o ++ (bytes_of 8 x ++ drop (p + 8) o)
-half-stored o p x h =
-    let v = x / 2 ^ 56 % 256 ∷ bytes_behind x in
-    rw (add-one p, add-two p, add-three p, add-four p, add_five p, add_six p, add_seven p)
-    (sets-eq v o p h ∙ append_assoc (take p o) v (drop (p + 8) o)
-    ∙ ap (λ (l : List ℕ). take p o ++ (l ++ drop (p + 8) o)) (eight_bytes x))
 
 -- the halves of a block have its bytes
 row-bytes : (x : List ℕ) (hi lo : ℕ) → Row x hi lo → bytes_of 8 hi ++ bytes_of 8 lo ≡ unwords x

@@ -9,11 +9,6 @@ use Rattle.block.specs.Xor.{xors}
 abbrev pub place : ℕ → ℕ
 place i = 8 * (i % 64) + i / 64
 
--- the arrays of the high and of the low halves
-pub record Sized (a b : List ℕ) : Type 0 where
-  pub size_a : length a ≡ 512
-  pub size_b : length b ≡ 512
-
 -- the halves of a block of four words
 pub record Row (x : List ℕ) (hi lo : ℕ) : Type 0 where
   pub four : length x ≡ 4

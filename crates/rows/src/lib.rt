@@ -9,57 +9,35 @@ ghost use Rattle.block.specs.BigEndian.{bytes_of};
 ghost use Rattle.block.specs.Blocks.{block_at};
 ghost use Rattle.block.specs.Words.{words};
 ghost use Rattle.block.specs.Over.{over};
-ghost use Rattle.rows.specs.Rows.{place, Sized, Rows, xored_blocks};
-ghost use Rattle.lanes.specs.Swaps.{first_swapped, second_swapped};
+ghost use Rattle.lanes.specs.Bits.{Blank};
+ghost use Rattle.rows.specs.Rows.{place, Rows, xored_blocks};
 ghost use Rattle.rows.specs.Transposed.{Swapped, Staged, Turned};
-
-// x, once its bits have changed places with those of y that stand d lower, where the mask m has them.
-fn first_swapped(x: u64, y: u64, d: usize, m: u64) -> u64
-    requires { d < 64 }
-    ensures { result ≡ first_swapped d m x y }
-{
-    x ^ ((((x >> d) ^ y) & m) << d)
-}
-
-// And y.
-fn second_swapped(x: u64, y: u64, d: usize, m: u64) -> u64
-    requires { d < 64 }
-    ensures { result ≡ second_swapped d m x y }
-{
-    y ^ (((x >> d) ^ y) & m)
-}
 
 // Swaps bits of the w words from g on with bits of the w words after these: bit c + d with bit c, where the mask m has bit c.
 fn swap_bits(a: &mut [u64; 512], g: usize, w: usize, d: usize, m: u64)
-    requires { (length a.old ≡ 512) × (g + w + w ≤ 512) × (d < 64) }
+    requires { (g + w + w ≤ 512) × (d < 64) }
     ensures { Swapped d m g w w a.old a.new }
 {
-    let mut e: usize = 0;
-    while e < w {
-        let x = a[g + e];
-        let y = a[g + e + w];
-        a[g + e] = first_swapped(x, y, d, m);
-        a[g + e + w] = second_swapped(x, y, d, m);
-        e += 1;
+    for e in 0..w {
+        let (x, y) = lanes::swapped(a[g + e], a[g + e + w], d, m);
+        a[g + e] = x;
+        a[g + e + w] = y;
     }
 }
 
-// The same for n groups of 2 w words, which are all words.
+// The same for n groups of 2 w words, which are all words. (That d is below 64 is asked of a number, as `lanes::swapped` asks it.)
 fn stage(a: &mut [u64; 512], n: usize, w: usize, d: usize, m: u64)
-    requires { (length a.old ≡ 512) × (2 * w * n ≡ 512) × (w ≤ 256) × (d < 64) }
+    requires { (2 * w * n ≡ 512) × (w ≤ 256) × (d < 64) }
     ensures { Staged d m w n a.old a.new }
 {
-    let mut i: usize = 0;
-    while i < n {
+    for i in 0..n {
         swap_bits(a, 2 * w * i, w, d, m);
-        i += 1;
     }
 }
 
 // Transposes the eight columns: six stages, each of which swaps one binary digit of a row's number with that of a bit's number.
 pub fn transpose(a: &mut [u64; 512])
-    requires { length a.old ≡ 512 }
-    ensures { Turned a.old a.new × (length a.new ≡ 512) × ((p : ℕ) → get_or a.new p 0 < 2 ^ 64) }
+    ensures { Turned a.old a.new × ((p : ℕ) → get_or a.new p 0 < 2 ^ 64) }
 {
     stage(a, 1, 256, 32, 0x0000_0000_ffff_ffff);
     stage(a, 2, 128, 16, 0x0000_ffff_0000_ffff);
@@ -73,7 +51,7 @@ pub fn transpose(a: &mut [u64; 512])
 fn half(high: u32, low: u32) -> u64
     ensures { result ≡ high * 2 ^ 32 + low }
 {
-    (high as u64) << 32 | low as u64
+    u64::from(high) << 32 | u64::from(low)
 }
 
 // Where block i stands.
@@ -84,58 +62,63 @@ fn place_of(i: usize) -> usize
     8 * (i % 64) + i / 64
 }
 
-// The block x as block i.
-fn put(a: &mut [u64; 512], b: &mut [u64; 512], i: usize, x: [u32; 4])
-    requires i_bound { i < 512 }
-    requires sized { Sized a.old b.old }
-    ensures by_index { (f : ℕ → List ℕ) → Rows i f a.old b.old → f i ≡ x → Rows (i + 1) f a.new b.new }
-    ensures sized_2 { Sized a.new b.new }
-{
-    let p = place_of(i);
-    a[p] = half(x[0], x[1]);
-    b[p] = half(x[2], x[3]);
-}
-
-// The first m blocks of `src`.
-pub fn load(src: &[u8], m: usize, a: &mut [u64; 512], b: &mut [u64; 512])
-    requires m_bound { (m ≤ 512) × (16 * m ≤ length src.now) }
-    requires sized { Sized a.old b.old }
-    ensures { Rows m (λ i. words (block_at src.now i)) a.new b.new }
-{
-    let mut i: usize = 0;
-    while i < m {
-        put(a, b, i, block::split_block(&src[16 * i..]));
-        i += 1;
-    }
-}
-
 // The eight bytes of x. From one u64 they become one store.
 fn put_half(out: &mut [u8], at: usize, x: u64)
     requires { at + 8 ≤ length out.old }
     ensures { out.new ≡ take at out.old ++ (bytes_of 8 x ++ drop (at + 8) out.old) }
 {
-    out[at] = ((x >> 56) % 256) as u8;
-    out[at + 1] = ((x >> 48) % 256) as u8;
-    out[at + 2] = ((x >> 40) % 256) as u8;
-    out[at + 3] = ((x >> 32) % 256) as u8;
-    out[at + 4] = ((x >> 24) % 256) as u8;
-    out[at + 5] = ((x >> 16) % 256) as u8;
-    out[at + 6] = ((x >> 8) % 256) as u8;
-    out[at + 7] = (x % 256) as u8;
+    out[at..at + 8].copy_from_slice(&x.to_be_bytes());
 }
 
-// The first m blocks, each xored with its block of `with`, to the front of `out`.
-pub fn store_xored(a: &[u64; 512], b: &[u64; 512], m: usize, with: &[u8], out: &mut [u8])
-    requires m_bound { (m ≤ 512) × (16 * m ≤ length «with».now) × (16 * m ≤ length out.old) }
-    requires sized { Sized a.now b.now }
-    ensures { (f : ℕ → List ℕ) → Rows m f a.now b.now → out.new ≡ over (xored_blocks m «with».now f) out.old }
-{
-    let mut i: usize = 0;
-    while i < m {
-        let x = block::split_block(&with[16 * i..]);
+// The high and the low halves of blocks, in two arrays, since `transpose` works on one array of halves at a time. m is asked to be at most
+// 512 where blocks are taken, and is no type of its own: each loop would take the type apart.
+#[derive(Drop)]
+pub struct Batch {
+    pub high: [u64; 512],
+    pub low: [u64; 512],
+}
+
+impl Batch {
+    // No blocks yet: every half is 0.
+    pub fn new() -> Batch
+        ensures { Blank result.high × Blank result.low }
+    {
+        Batch {
+            high: [0; 512],
+            low: [0; 512],
+        }
+    }
+
+    // The block x as block i.
+    fn put(&mut self, i: usize, x: [u32; 4])
+        requires { i < 512 }
+        ensures { (f : ℕ → List ℕ) → Rows i f self.old.high self.old.low → f i ≡ x → Rows (i + 1) f self.new.high self.new.low }
+    {
         let p = place_of(i);
-        put_half(out, 16 * i, half(x[0], x[1]) ^ a[p]);
-        put_half(out, 16 * i + 8, half(x[2], x[3]) ^ b[p]);
-        i += 1;
+        self.high[p] = half(x[0], x[1]);
+        self.low[p] = half(x[2], x[3]);
+    }
+
+    // The first m blocks of `src`.
+    pub fn load(&mut self, src: &[u8], m: usize)
+        requires { (m ≤ 512) × (16 * m ≤ length src.now) }
+        ensures { Rows m (λ i. words (block_at src.now i)) self.new.high self.new.low }
+    {
+        for i in 0..m {
+            self.put(i, block::split_block(&src[16 * i..]));
+        }
+    }
+
+    // The first m blocks, each xored with its block of `with`, to the front of `out`.
+    pub fn store_xored(&self, m: usize, with: &[u8], out: &mut [u8])
+        requires { (m ≤ 512) × (16 * m ≤ length «with».now) × (16 * m ≤ length out.old) }
+        ensures { (f : ℕ → List ℕ) → Rows m f self.now.high self.now.low → out.new ≡ over (xored_blocks m «with».now f) out.old }
+    {
+        for i in 0..m {
+            let x = block::split_block(&with[16 * i..]);
+            let p = place_of(i);
+            put_half(out, 16 * i, half(x[0], x[1]) ^ self.high[p]);
+            put_half(out, 16 * i + 8, half(x[2], x[3]) ^ self.low[p]);
+        }
     }
 }

@@ -1,78 +1,74 @@
-// The list of recorded answers: its head and its records.
-ghost use Rattle.std.specs.Prelude.{◌<◌, ◌≤◌, length};
+// The list of recorded answers: its head and its records. README.md beside this crate's folders has its form.
+use crate::due::Due;
+use cipher_mode::{CipherMode, Direction};
 
-// The bytes before the first record: the mark and the count.
-pub const HEAD: usize = 24;
+// What the list begins with; the number of its records is behind it.
+const MARK: &[u8] = b"luossavin answers 1\n";
 
-// The bytes that a record has before its five fields: part, direction, mode and name in a byte each, and the lengths of key, IV,
-// label, data and output in four bytes each.
-const FIXED: usize = 24;
-
-pub fn wide(x: u8) -> usize
-    ensures { result < 256 }
-{
-    x as usize
+// What was called: a single block, or a mode.
+#[derive(Clone, Copy, PartialEq, Eq, Debug)]
+pub(crate) enum Called {
+    Block,
+    Mode(CipherMode),
 }
 
-// What stands at `i`, 0 past the end.
-pub fn byte(s: &[u8], i: usize) -> usize
-    ensures { result < 256 }
-{
-    if i < s.len() { wide(s[i]) } else { 0 }
+// A call, and what is due of its answer. Of libsm's output there is none where it refused.
+#[derive(Clone, Copy)]
+pub(crate) struct Record<'a> {
+    pub(crate) part: u8,
+    pub(crate) direction: Direction,
+    pub(crate) called: Called,
+    pub(crate) due: Due,
+    pub(crate) key: &'a [u8],
+    pub(crate) iv: &'a [u8],
+    pub(crate) label: &'a [u8],
+    pub(crate) data: &'a [u8],
+    pub(crate) output: &'a [u8],
 }
 
-// The big-endian number in four bytes near the front.
-fn number(s: &[u8], at: usize) -> usize
-    requires { at < 256 }
-    ensures { result < 4294967296 }
-{
-    byte(s, at) * 0x100_0000
-        + byte(s, at + 1) * 0x1_0000
-        + byte(s, at + 2) * 0x100
-        + byte(s, at + 3)
-}
-
-// How many records the list says it has; 0 where it is no list.
-pub fn count(list: &[u8]) -> u64 {
-    if list.len() < HEAD {
-        return 0;
+impl<'a> Record<'a> {
+    // The record at the front of the bytes, and what is behind it; none where it is cut.
+    pub(crate) fn read(bytes: &'a [u8]) -> Option<(Record<'a>, &'a [u8])> {
+        let (fixed, rest) = bytes.split_first_chunk::<4>()?;
+        let [part, direction, mode, name] = *fixed;
+        let (key, rest) = number(rest)?;
+        let (iv, rest) = number(rest)?;
+        let (label, rest) = number(rest)?;
+        let (data, rest) = number(rest)?;
+        let (output, rest) = number(rest)?;
+        let (key, rest) = rest.split_at_checked(key as usize)?;
+        let (iv, rest) = rest.split_at_checked(iv as usize)?;
+        let (label, rest) = rest.split_at_checked(label as usize)?;
+        let (data, rest) = rest.split_at_checked(data as usize)?;
+        let (output, rest) = rest.split_at_checked(output as usize)?;
+        let record = Record {
+            part,
+            direction: match direction {
+                0 => Direction::Encrypt,
+                _ => Direction::Decrypt,
+            },
+            called: match mode {
+                5 => Called::Block,
+                _ => Called::Mode(cipher_mode::mode_of(mode as u32)),
+            },
+            due: Due::of(part, direction, name),
+            key,
+            iv,
+            label,
+            data,
+            output,
+        };
+        Some((record, rest))
     }
-    if !check::same(&list[0..20], b"luossavin answers 1\n") {
-        return 0;
-    }
-    number(list, 20) as u64
 }
 
-// Where field i of the record in front starts; the record ends where the sixth would.
-fn start(rest: &[u8], i: usize) -> usize
-    requires { i < 6 }
-{
-    let mut at = FIXED;
-    for before in 0..i {
-        at += number(rest, 4 + 4 * before);
-    }
-    at
+// The big-endian number at the front of the bytes, and what is behind it.
+fn number(bytes: &[u8]) -> Option<(u32, &[u8])> {
+    let (number, rest) = bytes.split_first_chunk::<4>()?;
+    Some((u32::from_be_bytes(*number), rest))
 }
 
-// How many bytes the record in front has; 0 where it is cut.
-pub fn size(rest: &[u8]) -> usize
-    ensures { result ≤ length rest.now }
-{
-    let size = start(rest, 5);
-    if rest.len() < size { 0 } else { size }
-}
-
-// Field i of the record in front: 0 key, 1 IV, 2 label, 3 data, 4 output.
-pub fn field(rest: &[u8], i: usize) -> &[u8]
-    requires { i < 5 }
-{
-    let from = start(rest, i);
-    let to = start(rest, i + 1);
-    if rest.len() < to {
-        return &rest[0..0];
-    }
-    if to < from {
-        return &rest[0..0];
-    }
-    &rest[from..to]
+// How many records the list says it has, and what is behind its head; none where it is no list.
+pub(crate) fn opened(list: &[u8]) -> Option<(u32, &[u8])> {
+    number(list.strip_prefix(MARK)?)
 }

@@ -8,13 +8,14 @@
 
 #![tactic(auto)]
 
+mod due;
 mod list;
 
-ghost use Rattle.std.specs.Prelude.{◌<◌};
-
-use cipher_mode::answer::{Answer, Ending};
-use cipher_mode::{Direction, Sm4Cipher, Sm4CipherMode, answer};
-use std::{env, fs, io};
+use cipher_mode::answer::Answer;
+use cipher_mode::{CipherMode, Direction, Sm4Cipher, Sm4CipherMode, answer};
+use due::Due;
+use list::{Called, Record};
+use std::{env, fmt, fs, io};
 
 // The number of every key here: libsm's keys have none, and ours want one.
 const NUMBER: u16 = 1;
@@ -22,67 +23,48 @@ const NUMBER: u16 = 1;
 // What the output buffer holds before a call.
 const LENT: u8 = 0xa5;
 
-// The parts of the list in which ours decides otherwise than libsm: paddings that libsm takes by their last byte alone, and 12-byte IVs.
-const INNER_PADDING: usize = 7;
+// The room of a call, more than any needs.
+const ROOM: usize = 8192;
 
-const TWELVE: usize = 11;
+// No more of the file is looked at.
+const MOST: usize = 1_000_000;
 
-// The row of MAY that an encryption under a 12-byte IV has.
-const SEALED: usize = 8;
-
-// The numbers that an answer may have, number n as bit n, for each of libsm's names: Ok; ErrorBlockSize,
-// which is the key (1), the IV (10) or the block (11); ErrorDataLen; InvalidLastU8; InvalidTag; a panic,
-// which is Cbc decryption of nothing (8) or Gcm decryption of too little (9); and no other name. Then for
-// what ours decides otherwise: a padding that is refused (15), an encryption under a 12-byte IV that is
-// done, and a decryption under one, of what nobody sealed (4). A request that gives a refusal another
-// number changes this and not the list.
-const MAY: [u32; 10] = [0x1, 0xc02, 0x4, 0x8, 0x10, 0x300, 0, 0x8000, 0x1, 0x10];
-
-// A call's answer: number, missing count, the key's number and length.
+// A call's answer: number, missing count, the key's number and length. It is told by numbers, since libsm's names stand for numbers.
 #[derive(Clone, Copy)]
-pub struct Told {
-    pub number: u32,
-    pub missing: u8,
-    pub key: u16,
-    pub length: usize,
+struct Told {
+    number: u32,
+    missing: u8,
+    key: u16,
+    length: usize,
 }
 
-// The counts so far: of the part that is being replayed, and how many records differ in all.
-#[derive(Clone, Copy)]
-pub struct Tally {
-    pub part: usize,
-    pub replayed: u64,
-    pub differ: u64,
-    pub all: u64,
-}
-
-// The row of MAY for a record.
-fn row(part: usize, direction: usize, name: usize) -> usize
-    ensures { result < 10 }
-{
-    if part == INNER_PADDING {
-        return 7;
+impl From<Answer> for Told {
+    fn from(answer: Answer) -> Told {
+        let key = answer.key;
+        match answer.ending {
+            Ok(done) => Told {
+                number: 0,
+                missing: 0,
+                key,
+                length: done.length,
+            },
+            Err(refusal) => Told {
+                number: answer::number(refusal),
+                missing: answer::missing(refusal),
+                key,
+                length: 0,
+            },
+        }
     }
-    if part == TWELVE {
-        return SEALED + direction % 2;
-    }
-    if name < 6 { name } else { 6 }
 }
 
-// Whether an answer may have this number.
-fn may(row: usize, number: u32) -> bool
-    requires { row < 10 }
-{
-    let numbers = MAY;
-    (numbers[row] >> number % 32) % 2 == 1
-}
-
-// What refusal 9 says is missing: what the data lacks of a tag's 16 bytes; and every other answer says 0.
-fn lacks(number: u32, data: usize) -> usize {
-    if number != 9 {
-        return 0;
+// What an answer of this number says is missing: refusal 9 what the data lacks of a tag's 16 bytes, and every other answer 0.
+fn lacks(number: u32, data: usize) -> Option<u8> {
+    match number {
+        9 if data < 16 => Some(16 - data as u8),
+        9 => None,
+        _ => Some(0),
     }
-    if data < 16 { 16 - data } else { 256 }
 }
 
 // The key's number in an answer: refusal 1 has no key, and every other answer repeats its number.
@@ -91,248 +73,142 @@ fn key_in(number: u32) -> u16 {
 }
 
 // Whether an answer has a number that it may have, and missing count and key's number go with it.
-fn is_due(row: usize, told: Told, data: usize) -> bool
-    requires { row < 10 }
-{
-    may(row, told.number)
-        && list::wide(told.missing) == lacks(told.number, data)
+fn is_due(told: Told, record: &Record<'_>) -> bool {
+    record.due.allows(told.number)
+        && lacks(told.number, record.data.len()) == Some(told.missing)
         && told.key == key_in(told.number)
 }
 
-// An answer by its numbers.
-fn told_of(answer: Answer) -> Told {
-    let ending = answer.ending;
-    let key = answer.key;
-    match ending {
-        Ending::Done(length) => Told {
-            number: 0,
-            missing: 0,
-            key,
-            length,
-        },
-        Ending::Refused(refusal) => Told {
-            number: answer::number(refusal),
-            missing: answer::missing(refusal),
-            key,
-            length: 0,
-        },
-    }
-}
-
-// Makes a call on a record with the mark of an engine: mode 5 is a single block, direction 0 is encryption.
-fn called(
-    mark: u8,
-    direction: usize,
-    mode: usize,
-    key: &[u8],
-    iv: &[u8],
-    label: &[u8],
-    data: &[u8],
-    out: &mut [u8],
-) -> Told {
-    let way = way(direction);
-    let plain = Sm4Cipher::new(key, NUMBER as u32);
-    let cipher = plain.with_engine(mark);
-    if mode == 5 {
-        return told_of(cipher.call(way, data, out));
-    }
-    let keyed = Sm4CipherMode {
-        cipher,
-        mode: cipher_mode::mode_of((mode % 256) as u32),
-    };
-    told_of(keyed.call(way, label, data, iv, out))
-}
-
-fn way(direction: usize) -> Direction {
-    if direction == 0 {
-        Direction::Encrypt
-    } else {
-        Direction::Decrypt
-    }
-}
-
-// Whether no byte of `out` from `at` on was written.
-fn untouched(out: &[u8], at: usize) -> bool {
-    let mut i = at;
-    while i < out.len() {
-        if out[i] != LENT {
-            return false;
+// Makes the call of a record with the mark of an engine.
+fn call(record: &Record<'_>, mark: u8, out: &mut [u8]) -> Told {
+    let cipher = Sm4Cipher::new(record.key, NUMBER as u32).with_engine(mark);
+    let answer = match record.called {
+        Called::Block => cipher.call(record.direction, record.data, out),
+        Called::Mode(mode) => {
+            let keyed = Sm4CipherMode { cipher, mode };
+            keyed.call(record.direction, record.label, record.data, record.iv, out)
         }
-        i += 1;
-    }
-    true
+    };
+    Told::from(answer)
 }
 
-// The first `n` bytes; all where there are no more.
-fn front(s: &[u8], n: usize) -> &[u8] {
-    if n < s.len() {
-        return &s[0..n];
-    }
-    s
+// Whether no byte was written.
+fn untouched(out: &[u8]) -> bool {
+    out.iter().all(|b| *b == LENT)
+}
+
+// The first `n` bytes and the others; no others where there are no more.
+fn split(s: &[u8], n: usize) -> (&[u8], &[u8]) {
+    s.split_at(n.min(s.len()))
 }
 
 // Whether a call wrote `expected` and nothing past it; nothing at all where it was refused.
 fn wrote(told: Told, out: &[u8], expected: &[u8]) -> bool {
-    let n = told.length;
     if told.number != 0 {
-        return untouched(out, 0);
+        return untouched(out);
     }
-    check::same(front(out, n), expected) && untouched(out, n)
+    let (written, past) = split(out, told.length);
+    written == expected && untouched(past)
 }
 
 // Whether a text that was sealed under a 12-byte IV, for which libsm has no bytes to compare, is 16 bytes longer than the text,
 // and opens to it.
-fn opens(
-    mark: u8,
-    told: Told,
-    sealed: &[u8],
-    key: &[u8],
-    iv: &[u8],
-    label: &[u8],
-    text: &[u8],
-) -> bool {
-    let n = told.length;
-    let mut out = [LENT; 8192];
-    let back = called(mark, 1, 4, key, iv, label, front(sealed, n), &mut out);
-    if n < 16 {
-        return false;
-    }
-    n - 16 == text.len() && untouched(sealed, n) && wrote(back, &out, text)
+fn opens(record: &Record<'_>, mark: u8, told: Told, out: &[u8]) -> bool {
+    let (sealed, past) = split(out, told.length);
+    let opening = Record {
+        direction: Direction::Decrypt,
+        called: Called::Mode(CipherMode::Gcm),
+        data: sealed,
+        ..*record
+    };
+    let mut text = [LENT; ROOM];
+    let back = call(&opening, mark, &mut text);
+    told.length.checked_sub(16) == Some(record.data.len())
+        && untouched(past)
+        && wrote(back, &text, record.data)
 }
 
 // Whether a call answers as recorded on the engine that a mark names.
-fn agrees_on(mark: u8, record: &[u8]) -> bool {
-    let direction = list::byte(record, 1);
-    let row = row(list::byte(record, 0), direction, list::byte(record, 3));
-    let key = list::field(record, 0);
-    let iv = list::field(record, 1);
-    let label = list::field(record, 2);
-    let data = list::field(record, 3);
-    let mut out = [LENT; 8192];
-    let told = called(
-        mark,
-        direction,
-        list::byte(record, 2),
-        key,
-        iv,
-        label,
-        data,
-        &mut out,
-    );
-    if !is_due(row, told, data.len()) {
-        return false;
-    }
-    if row == SEALED {
-        return opens(mark, told, &out, key, iv, label, data);
-    }
-    wrote(told, &out, list::field(record, 4))
+fn agrees_on(record: &Record<'_>, mark: u8) -> bool {
+    let mut out = [LENT; ROOM];
+    let told = call(record, mark, &mut out);
+    is_due(told, record)
+        && match record.due {
+            Due::TwelveSealed => opens(record, mark, told, &out),
+            _ => wrote(told, &out, record.output),
+        }
 }
 
 // Whether it does under every mark: each engine has one of these, and what is left names none.
-fn agrees(record: &[u8]) -> bool {
-    agrees_on(0, record) && agrees_on(1, record) && agrees_on(2, record) && agrees_on(3, record)
+fn agrees(record: &Record<'_>) -> bool {
+    (0..4u8).all(|mark| agrees_on(record, mark))
 }
 
-// Writes how many were replayed and how many of them differ.
-fn write_counts(rt: &HostRuntime, replayed: u64, differ: u64) -> io::Result<()> {
-    println!(rt; "{replayed} replayed {differ} differ")
+// How many records were replayed, and how many of them differ.
+#[derive(Clone, Copy, Default)]
+struct Counts {
+    replayed: u64,
+    differ: u64,
+}
+
+impl Counts {
+    // With one record more. The counts stay far below what a u64 holds.
+    fn with(self, differs: bool) -> Counts {
+        Counts {
+            replayed: self.replayed.wrapping_add(1),
+            differ: self.differ.wrapping_add(differs as u64),
+        }
+    }
+}
+
+impl fmt::Display for Counts {
+    fn fmt<W: fmt::Write>(&self, f: &mut fmt::Formatter<W>) -> fmt::Result {
+        write!(f, "{} replayed {} differ", self.replayed, self.differ)
+    }
 }
 
 // Writes the line of a part that has records, by its name: the argument behind the file's that has its number.
-fn write_part(rt: &HostRuntime, names: &[String], tally: Tally) -> io::Result<()> {
-    if tally.replayed == 0 {
+fn write_part(rt: &HostRuntime, names: &[String], part: u8, counts: Counts) -> io::Result<()> {
+    if counts.replayed == 0 {
         return Ok(());
     }
-    if let Some(name) = names.get(tally.part % 256) {
-        print!(rt; "{name}")?;
-    }
-    print!(rt; ": ")?;
-    write_counts(rt, tally.replayed, tally.differ)
+    let name = names.get(part as usize).map_or("", |name| name.as_str());
+    println!(rt; "{name}: {counts}")
 }
 
-// The counts with one record more; a part's line is written where the next part starts. They stay far below what a u64 holds.
-fn counted(
-    rt: &HostRuntime,
-    names: &[String],
-    tally: Tally,
-    part: usize,
-    differs: u64,
-) -> io::Result<Tally> {
-    let all = tally.all.wrapping_add(differs);
-    if part == tally.part {
-        return Ok(Tally {
-            part,
-            replayed: tally.replayed.wrapping_add(1),
-            differ: tally.differ.wrapping_add(differs),
-            all,
-        });
-    }
-    write_part(rt, names, tally)?;
-    Ok(Tally {
-        part,
-        replayed: 1,
-        differ: differs,
-        all,
-    })
-}
-
-// 1 where the record in front differs, which is said, else 0.
-fn differs(rt: &HostRuntime, record: &[u8], number: u64) -> io::Result<u64> {
-    if agrees(record) {
-        return Ok(0);
-    }
-    println!(rt; "record {number} differs")?;
-    Ok(1)
-}
-
-// Writes of a record that the list is cut there.
-fn write_cut(rt: &HostRuntime, number: u64) -> io::Result<()> {
-    println!(rt; "the list is cut at record {number}")
-}
-
-// Replays the whole list and writes how it went.
+// Replays the whole list and writes how it went. A part's line is written where the next part starts.
 fn replay_all(rt: &HostRuntime, names: &[String], file: &[u8]) -> io::Result<()> {
-    let count = list::count(file);
-    let mut tally = Tally {
-        part: 0,
-        replayed: 0,
-        differ: 0,
-        all: 0,
-    };
-    let mut at = list::HEAD;
-    let mut seen: u64 = 0;
-    while seen < count {
-        if file.len() < at {
-            return Ok(());
+    let (count, records) = list::opened(file).unwrap_or((0, &[]));
+    let mut rest = records;
+    let mut part = 0;
+    let mut in_part = Counts::default();
+    let mut all = Counts::default();
+    for before in 0..count {
+        let number = before as u64 + 1;
+        let Some((record, behind)) = Record::read(rest) else {
+            return println!(rt; "the list is cut at record {number}");
+        };
+        rest = behind;
+        let differs = !agrees(&record);
+        if differs {
+            println!(rt; "record {number} differs")?;
         }
-        let record = &file[at..];
-        let size = list::size(record);
-        seen += 1;
-        if size == 0 {
-            return write_cut(rt, seen);
+        if record.part != part {
+            write_part(rt, names, part, in_part)?;
+            part = record.part;
+            in_part = Counts::default();
         }
-        let differ = differs(rt, record, seen)?;
-        tally = counted(rt, names, tally, list::byte(record, 0), differ)?;
-        at += size;
+        in_part = in_part.with(differs);
+        all = all.with(differs);
     }
-    write_part(rt, names, tally)?;
-    write_counts(rt, seen, tally.all)
+    write_part(rt, names, part, in_part)?;
+    println!(rt; "{all}")
 }
-
-// No more of the file is looked at.
-const MOST: usize = 1_000_000;
 
 fn main(rt: HostRuntime) -> io::Result<()> {
-    let alloc = rt.alloc();
-    let mut names = Vec::new(alloc);
-    for argument in env::args(&rt)?.skip(1) {
-        names.push(argument)?;
-    }
-    let path = match names.first() {
-        Some(path) => path.as_str(),
-        None => "",
-    };
+    let names: Vec<String> = env::args(&rt)?.skip(1).collect(rt.alloc())?;
+    let path = names.first().map_or("", |path| path.as_str());
     let file = fs::read(&rt, path)?;
-    let n = file.len().min(MOST);
-    replay_all(&rt, names.as_slice(), &file.as_slice()[..n])
+    let looked_at = file.len().min(MOST);
+    replay_all(&rt, names.as_slice(), &file.as_slice()[..looked_at])
 }

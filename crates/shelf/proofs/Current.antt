@@ -1,8 +1,8 @@
 -- The current records of a job, after each change to a list of records. No job has two exactly where each has at most one.
 use Rattle.shelf.proofs.Names.{Bool, List, Record, [], ◌&&◌, ◌∙◌, ◌∷◌, ◌≡◌, ◌≤◌, and_left, and_right, append-nil, arith, by_test}
 use Rattle.shelf.proofs.Names.{collected, current_of, eq-eqb, eqb-true, false, fitted, has_current, is_current_of, leb, length}
-use Rattle.shelf.proofs.Names.{length-append, ne_eqb, refl, stored, supersede, sym, those, true, two_current, with_new, ℕ}
-use Rattle.shelf.proofs.Walks.{none-current, alone, two_rest}
+use Rattle.shelf.proofs.Names.{ne_eqb, refl, stored, supersede, sym, those, true, two_current, with_new, ℕ}
+use Rattle.shelf.proofs.Walks.{none-current, alone, two_rest, those-length}
 use Rattle.shelf.proofs.Putting.{those-append, those-marked}
 
 pub current-none : (job : ℕ) (rs : List Record) → length (current_of job rs) ≤ 0 → has_current job rs ≡ false
@@ -47,11 +47,7 @@ pub collected_again : (rs : List Record) → collected (collected rs) ≡ collec
 collected_again = those-collected (λ r. r.current) (λ r e. e)
 
 pub collected-length : (rs : List Record) → length (stored (collected rs)) ≤ length (stored rs)
-unfolding those stored
-collected-length [] = omega arith
-collected-length (r ∷ rs) =
-    let more = collected-length rs in
-    by_test r.current (λ e. rw e (simp length-append (omega arith))) (λ e. rw e (simp length-append (omega arith)))
+collected-length = those-length (λ r. r.current)
 
 -- marking: of the job there is none left, and of the others nothing is changed
 current_gone : (job : ℕ) (rs : List Record) → current_of job (supersede job rs) ≡ []

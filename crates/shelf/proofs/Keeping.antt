@@ -1,13 +1,13 @@
 -- A collection, record by record: one that stays is moved down behind those that stayed, and what is to come is as it was.
-use Rattle.shelf.proofs.Names.{AreBytes, Bool, Head, List, ◌&&◌, ◌++◌, ◌+◌, ◌-◌, ◌∙◌, ◌≡◌, ◌≤◌, ap, append_assoc, append-nil, ap₂}
-use Rattle.shelf.proofs.Names.{arith, below-drop, below-take, drop, drop-drop, drop-paste, eqb, false, head_at, length, length-drop}
+use Rattle.shelf.proofs.Names.{AreBytes, Head, List, None, Option, ◌&&◌, ◌++◌, ◌+◌, ◌-◌, ◌∙◌, ◌≡◌, ◌≤◌, ap, append_assoc, append-nil, ap₂}
+use Rattle.shelf.proofs.Names.{arith, below-drop, below-take, comes, drop, drop-drop, drop-paste, false, head_at, length, length-drop}
 use Rattle.shelf.proofs.Names.{length-paste, length-take-le, not, over, paste, records, refl, stays, stored, sub-zero, sym, take}
 use Rattle.shelf.proofs.Names.{take-append-drop, take-paste, those, true, ℕ}
 use Rattle.shelf.proofs.ReadsProper.{between, Turn, at-end}
 
 -- the bytes that are kept of b
-abbrev pub kept : Bool → ℕ → List ℕ → List ℕ
-kept coming job b = stored (those (stays coming job) (records b))
+abbrev pub kept : Option ℕ → List ℕ → List ℕ
+kept coming b = stored (those (stays coming) (records b))
 
 -- what is behind `to` is as it was, and so is what is to come
 between_same : (to at used : ℕ) (s s₀ : List ℕ) → to ≤ at → drop to s ≡ drop to s₀ → between at used s ≡ between at used s₀
@@ -17,36 +17,36 @@ between_same to at used s s₀ h e =
     ap (take (used - at)) f
 
 -- how far a collection has come: the records up to `at` are done with, and what stays of them stands before `to`
-pub record Collecting (coming : Bool) (job : ℕ) (s₀ : List ℕ) (used : ℕ) (s : List ℕ) (to at : ℕ) : Type 0 where
+pub record Collecting (coming : Option ℕ) (s₀ : List ℕ) (used : ℕ) (s : List ℕ) (to at : ℕ) : Type 0 where
   pub below : to ≤ at
   pub inside : at ≤ used
   pub long : length s ≡ length s₀
   -- nothing from `to` on has changed
   pub behind : drop to s ≡ drop to s₀
   -- with what stays of the records to come, it is all that stays
-  pub all : take to s ++ kept coming job (between at used s) ≡ kept coming job (take used s₀)
+  pub all : take to s ++ kept coming (between at used s) ≡ kept coming (take used s₀)
 
-pub collecting_starts : (coming : Bool) (job : ℕ) (s : List ℕ) (used : ℕ) → Collecting coming job s used s 0 0
-collecting_starts coming job s used =
+pub collecting_starts : (coming : Option ℕ) (s : List ℕ) (used : ℕ) → Collecting coming s used s 0 0
+collecting_starts coming s used =
     record { below = omega arith; inside = omega arith; long = refl; behind = refl; all = rw sub-zero }
 
-module _ {coming : Bool} {job : ℕ} {s₀ : List ℕ} {used : ℕ} {s : List ℕ} {to at : ℕ} (room : used ≤ length s₀)
-    (so_far : Collecting coming job s₀ used s to at) where
+module _ {coming : Option ℕ} {s₀ : List ℕ} {used : ℕ} {s : List ℕ} {to at : ℕ} (room : used ≤ length s₀)
+    (so_far : Collecting coming s₀ used s to at) where
   -- the end: all that is kept stands at the front
-  pub all_kept : {h : Head} → h ≡ head_at (between at used s) → h.size ≡ 0
-      → (to ≡ length (kept coming job (take used s₀))) × (s ≡ over (kept coming job (take used s₀)) s₀)
+  pub all_kept : None ≡ head_at (between at used s)
+      → (to ≡ length (kept coming (take used s₀))) × (s ≡ over (kept coming (take used s₀)) s₀)
   unfolding those stored
-  all_kept e z =
-      let none = at-end s used at _ e z in
-      let front : take to s ≡ kept coming job (take used s₀) = sym (append-nil (take to s)) ∙ (rw none at so_far.all) in
-      let long : to ≡ length (kept coming job (take used s₀)) = sym (length-take-le to s (omega arith)) ∙ ap length front in
+  all_kept e =
+      let none = at-end s used at e in
+      let front : take to s ≡ kept coming (take used s₀) = sym (append-nil (take to s)) ∙ (rw none at so_far.all) in
+      let long : to ≡ length (kept coming (take used s₀)) = sym (length-take-le to s (omega arith)) ∙ ap length front in
       (long, sym (take-append-drop to s) ∙ ap₂ ◌++◌ front (so_far.behind ∙ ap (λ (k : ℕ). drop k s₀) long))
 
   -- a turn
   module _ {h : Head} (t : Turn s used at h) {s' : List ℕ} {to' : ℕ} where
     -- it stays
-    pub stay_turn : AreBytes s₀ → not (coming && eqb h.job job) && h.current ≡ true → s' ≡ paste s to (drop at s) h.size
-        → to' ≡ to + h.size → Collecting coming job s₀ used s' to' (at + h.size)
+    pub stay_turn : AreBytes s₀ → not (comes coming h.job) && h.current ≡ true → s' ≡ paste s to (drop at s) h.size
+        → to' ≡ to + h.size → Collecting coming s₀ used s' to' (at + h.size)
     unfolding those stored
     stay_turn small stay e g =
         let n = h.size in
@@ -72,8 +72,8 @@ module _ {coming : Bool} {job : ℕ} {s₀ : List ℕ} {used : ℕ} {s : List �
         }
 
     -- it does not
-    pub gone_turn : not (coming && eqb h.job job) && h.current ≡ false → s' ≡ s → to' ≡ to
-        → Collecting coming job s₀ used s' to' (at + h.size)
+    pub gone_turn : not (comes coming h.job) && h.current ≡ false → s' ≡ s → to' ≡ to
+        → Collecting coming s₀ used s' to' (at + h.size)
     unfolding those
     gone_turn gone e g =
         record {

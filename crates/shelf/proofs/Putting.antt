@@ -1,14 +1,14 @@
 -- What a put changes: marking the current record of a job changes one byte of the buffer; where a new record goes, and what it takes
 -- to find room for it.
-use Rattle.shelf.proofs.Names.{AreBytes, Bool, InOrder, List, Record, Surveyed, Told, [], ◌++◌, ◌+◌, ◌-◌, ◌<◌, ◌∙◌, ◌∷◌, ◌≡◌, ◌≤◌}
-use Rattle.shelf.proofs.Names.{and-false, ap, append_assoc, append-nil, arith, below-take, by_test, bytes_of, collected, cond, drop}
-use Rattle.shelf.proofs.Names.{drop_at, eqb, false, fitted, has_current, is_current_of, label_of, le-leb, le-ltb, leb, leb-true, length}
+use Rattle.shelf.proofs.Names.{AreBytes, Bool, Found, InOrder, List, None, Record, Some, [], ◌++◌, ◌+◌, ◌-◌, ◌∙◌, ◌∷◌, ◌≡◌, ◌≤◌}
+use Rattle.shelf.proofs.Names.{and-false, ap, append_assoc, append-nil, arith, below-take, by_test, bytes_of, collected, cond, current_in, drop}
+use Rattle.shelf.proofs.Names.{drop_at, eqb, false, fitted, has_current, heads, is_current_of, label_of, le-leb, leb, leb-true, length}
 use Rattle.shelf.proofs.Names.{length-append, length-bytes_of, length-drop, length_label, length-take-le, lt-leb, ltb, ltb-false}
 use Rattle.shelf.proofs.Names.{ltb-true, new_record, not, over, over-append, over-behind, place_of, records, refl, returned, room_made, set}
-use Rattle.shelf.proofs.Names.{set-append_left, size_of, stays, stored, suc-add, supersede, superseded, sym, tailed, take, take_at}
+use Rattle.shelf.proofs.Names.{set-append_left, stays, stored, suc-add, supersede, superseded, sym, tailed, take, take_at}
 use Rattle.shelf.proofs.Names.{take-append-drop, those, true, two_current, with_new, written, zero-add, ℕ}
 use Rattle.shelf.proofs.Reading.{length-written}
-use Rattle.shelf.proofs.Walks.{or_left, or_right, alone, two_rest, has_told}
+use Rattle.shelf.proofs.Walks.{or_left, or_right, alone, two_rest, Standing, current-standing}
 use Rattle.shelf.proofs.ReadsProper.{stored-records}
 
 set-behind : (xs ys : List ℕ) (n a : ℕ) → set (xs ++ ys) (length xs + n) a ≡ xs ++ set ys n a
@@ -34,10 +34,10 @@ unfolding written
 mark_set r rest = refl
 
 -- the current record of a job stands before the end, all its head at least, and marking it is one byte
-mark-one : (job : ℕ) (rs : List Record) → 0 < size_of job rs → two_current rs ≡ false
+mark-one : (job : ℕ) (rs : List Record) → has_current job rs ≡ true → two_current rs ≡ false
     → (place_of job rs + 12 ≤ length (stored rs)) × (set (stored rs) (place_of job rs + 1) 0x58 ≡ stored (supersede job rs))
-unfolding place_of supersede stored those
-mark-one job [] e f = absurd (omega arith)
+unfolding has_current place_of supersede stored
+mark-one job [] e f = absurd cc
 mark-one job (r ∷ rs) e f =
     by_test (is_current_of job r)
     (λ g.
@@ -46,6 +46,13 @@ mark-one job (r ∷ rs) e f =
     let more = mark-one job rs (rw g at e) (two_rest r rs f) in
     let place : length (written r) + place_of job rs + 1 ≡ length (written r) + (place_of job rs + 1) = omega arith in
     rw (g, length-append) (omega arith, rw (place, set-behind, more.1)))
+
+-- what a walk finds of a job
+pub found_at : (shelf : List ℕ) (used : ℕ) → InOrder shelf used → (job : ℕ)
+    → let rs = records (take used shelf) in
+    current_in job 0 (heads (take used shelf)) ≡ cond (has_current job rs) (Some (Standing job 0 rs)) None
+unfolding heads
+found_at shelf used o job = current-standing job 0 (records (take used shelf)) o.single
 
 module _ (shelf : List ℕ) (used : ℕ) (small : AreBytes shelf) (o : InOrder shelf used) where
   abbrev rs : List Record
@@ -58,21 +65,29 @@ module _ (shelf : List ℕ) (used : ℕ) (small : AreBytes shelf) (o : InOrder s
       ∙ ap (λ (x : List ℕ). x ++ drop used shelf)
       (sym (stored-records (take used shelf) (below-take 256 used shelf small) (o.fills ∙ sym (length-take-le used shelf o.within))))
 
-  -- what a walk over them tells of a job is what is to be marked
-  module _ {job edition : ℕ} {told : Told} (s : Surveyed job edition rs told) where
-    pub marked-over : 0 < told.length
-        → (told.start + 12 ≤ used) × (set shelf (told.start + 1) 0x58 ≡ over (stored (supersede job rs)) shelf)
-    marked-over has =
-        let m = mark-one job rs (rw s.size at has) o.single in
-        rw s.start (
-          omega arith,
+  -- what a walk over them finds of a job is what is to be marked
+  module _ (job : ℕ) where
+    pub marked-over : {f : Found} → Some f ≡ current_in job 0 (heads (take used shelf))
+        → (f.start + 12 ≤ used) × (set shelf (f.start + 1) 0x58 ≡ over (stored (supersede job rs)) shelf)
+    marked-over {f} e =
+        by_test (has_current job rs)
+        (λ h.
+        let there : Some f ≡ Some (Standing job 0 rs) = e ∙ found_at shelf used o job ∙ rw h in
+        let same : f ≡ Standing job 0 rs = cc in
+        let place : f.start ≡ place_of job rs = rw (same, zero-add) in
+        let m = mark-one job rs h o.single in
+        rw place (
+          omega (arith, o.fills),
           ap (λ (x : List ℕ). set x (place_of job rs + 1) 0x58) used-stored
               ∙ set-append_left (stored rs) (drop used shelf) (place_of job rs + 1) 0x58 (omega arith)
               ∙ rw (m.1, length-supersede job rs, o.fills),
-        )
+        ))
+        (λ h. let z : Some f ≡ None = e ∙ found_at shelf used o job ∙ rw h in absurd cc)
 
-    pub unmarked-over : told.length ≤ 0 → shelf ≡ over (stored (supersede job rs)) shelf
-    unmarked-over none = used-stored ∙ rw (supersede-none job rs (has_told s ∙ le-ltb 0 told.length none), o.fills)
+    pub unmarked-over : None ≡ current_in job 0 (heads (take used shelf)) → shelf ≡ over (stored (supersede job rs)) shelf
+    unmarked-over e =
+        by_test (has_current job rs) (λ h. let z : None ≡ Some (Standing job 0 rs) = e ∙ found_at shelf used o job ∙ rw h in absurd cc)
+        (λ h. used-stored ∙ rw (supersede-none job rs h, o.fills))
 
 pub those-append : (test : Record → Bool) (a b : List Record) → those test (a ++ b) ≡ those test a ++ those test b
 unfolding those
@@ -88,9 +103,9 @@ those-marked p q job each [] = refl
 those-marked p q job each (r ∷ rs) = rw (those-marked p q job each rs) (each r (those q rs))
 
 -- what stays where a job's new record is coming
-those_coming : (job : ℕ) (rs : List Record) → those (stays true job) rs ≡ collected (supersede job rs)
+those_coming : (job : ℕ) (rs : List Record) → those (stays (Some job)) rs ≡ collected (supersede job rs)
 those_coming job rs =
-    sym (those-marked (λ r. r.current) (stays true job) job
+    sym (those-marked (λ r. r.current) (stays (Some job)) job
     (λ r a.
     by_test r.current (λ e. by_test (eqb r.job job) (λ f. rw (e, f)) (λ f. rw (e, f)))
     (λ e. rw (e, and-false (not (eqb r.job job)))))
@@ -114,7 +129,7 @@ module _ (shelf : List ℕ) (used : ℕ) (o : InOrder shelf used) where
 
   module _ (n job : ℕ) {s : List ℕ} where
     pub made_short : {at : ℕ} → ltb (length shelf) (used + (12 + n)) ≡ true
-        → (let m = stored (those (stays true job) (records (take used shelf))) in (at ≡ length m) × (s ≡ over m shelf)) → Made n job at s
+        → (let m = stored (those (stays (Some job)) (records (take used shelf))) in (at ≡ length m) × (s ≡ over m shelf)) → Made n job at s
     unfolding room_made
     made_short f e = rw (o.fills, f) (rw those_coming at e)
 
@@ -138,7 +153,7 @@ module _ (shelf : List ℕ) (used : ℕ) (o : InOrder shelf used) where
     collected-new = those-append (λ r. r.current) (supersede new.job old) (new ∷ []) ∙ rw current
 
     -- the bytes of the records current after the put
-    pub length-current : {kept : ℕ} → kept ≡ length (stored (those (stays true new.job) old))
+    pub length-current : {kept : ℕ} → kept ≡ length (stored (those (stays (Some new.job)) old))
         → kept + (12 + length new.sealed) ≡ length (stored (collected after))
     length-current e = rw (e, those_coming new.job old, collected-new) (sym (length-new (collected (supersede new.job old))))
 

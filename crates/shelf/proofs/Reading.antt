@@ -1,8 +1,8 @@
 -- Records are read one at a time: where one stands whole at the front, it and then what is behind it; otherwise none.
-use Rattle.shelf.proofs.Names.{List, Record, [], ◌+◌, ◌-◌, ◌<◌, ◌∙◌, ◌∷◌, ◌≡◌, ◌≤◌, and_left, and_right, arith, by_test, bytes_of}
-use Rattle.shelf.proofs.Names.{cond, drop, eqb, false, front, label_of, le-leb, leb, leb-true, length, length-append, length-bytes_of}
-use Rattle.shelf.proofs.Names.{length-drop, length_label, length-take-le, lt-leb, marked, ne_eqb, not, read_up_to, records, refl}
-use Rattle.shelf.proofs.Names.{size_at, starts_record, suc, sym, take, true, word_at, written, zero, ℕ}
+use Rattle.shelf.proofs.Names.{Head, List, None, Record, Some, [], ◌+◌, ◌-◌, ◌<◌, ◌∙◌, ◌∷◌, ◌≡◌, ◌≤◌, and_left, and_right, ap₂, arith}
+use Rattle.shelf.proofs.Names.{by_test, bytes_of, drop, false, front, head_at, head_of, heads, label_of, le-leb, leb, leb-true, length}
+use Rattle.shelf.proofs.Names.{length-append, length-bytes_of, length-drop, length_label, length-take-le, lt-leb, marked, read_up_to}
+use Rattle.shelf.proofs.Names.{records, refl, size_at, starts_record, stored, suc, sym, take, true, word_at, written, zero, ℕ}
 
 pub length-written : (r : Record) → length (written r) ≡ 12 + length r.sealed
 unfolding written
@@ -32,16 +32,6 @@ module _ (b : List ℕ) where
   pub size_starts : starts_record b ≡ true → size_at b ≡ 12 + word_at b 8
   unfolding size_at
   size_starts e = rw e
-
-  pub size-marked : 12 ≤ length b → marked b ≡ true → {n : ℕ} → n ≡ word_at b 8 → size_at b ≡ cond (leb n (length b - 12)) (12 + n) 0
-  unfolding size_at starts_record
-  size-marked h m e = rw (e, le-leb 12 (length b) h, m)
-
-  -- one stands there exactly where its size is not 0
-  pub starts_size : starts_record b ≡ not (eqb (size_at b) 0)
-  starts_size =
-      by_test (starts_record b) (λ f. rw (f, ne_eqb (size_at b) 0 (λ z. omega (arith, size_starts f))))
-      (λ f. rw f (unfold size_at in rw f))
 
   -- what is behind a record is shorter
   behind_less : starts_record b ≡ true → length (drop (size_at b) b) < length b
@@ -89,3 +79,64 @@ module _ (P : List ℕ → Type 0) (none : (b : List ℕ) → starts_record b �
 
   pub by_records : (b : List ℕ) → P b
   by_records b = up_to (length b) b (omega arith)
+
+-- there are no more bytes of records than bytes
+pub stored-within : (b : List ℕ) → length (stored (records b)) ≤ length b
+unfolding stored front
+stored-within =
+    by_records (λ b. length (stored (records b)) ≤ length b) (λ b f. rw (records-none b f) (omega arith))
+    (λ b f more.
+    rw (records-one b f, length-append, length-written, length-sealed b f)
+    (omega (arith, starts_within b f, size_starts b f, length-drop (size_at b) b)))
+
+module _ (b : List ℕ) where
+  -- the head of a record says how long it is
+  pub head-size : starts_record b ≡ true → (head_of (front b)).size ≡ size_at b
+  unfolding front
+  head-size f = length-written (front b) ∙ rw (length-sealed b f, size_starts b f)
+
+  pub starts_here : {n : ℕ} → 12 ≤ length b → marked b ≡ true → n ≡ word_at b 8 → n ≤ length b - 12 → starts_record b ≡ true
+  unfolding starts_record
+  starts_here h m e k = rw (le-leb _ _ h, m, ← e, le-leb _ _ k)
+
+  pub no_head : None ≡ head_at b → starts_record b ≡ false
+  unfolding head_at
+  no_head e = by_test (starts_record b) (λ f. let z : None ≡ Some (head_of (front b)) = rw f at e in absurd cc) (λ f. f)
+
+  pub one_head : {h : Head} → Some h ≡ head_at b → (starts_record b ≡ true) × (h ≡ head_of (front b))
+  unfolding head_at
+  one_head {h} e =
+      by_test (starts_record b) (λ f. let z : Some h ≡ Some (head_of (front b)) = rw f at e in (f, cc))
+      (λ f. let z : Some h ≡ None = rw f at e in absurd cc)
+
+  pub heads-none : starts_record b ≡ false → heads b ≡ []
+  unfolding heads
+  heads-none f = rw (records-none b f)
+
+  pub heads-one : starts_record b ≡ true → heads b ≡ head_of (front b) ∷ heads (drop (size_at b) b)
+  unfolding heads
+  heads-one f = rw (records-one b f)
+
+  pub no_heads : heads b ≡ [] → records b ≡ []
+  no_heads e =
+      by_test (starts_record b)
+      (λ f. let z : head_of (front b) ∷ heads (drop (size_at b) b) ≡ [] = sym (heads-one f) ∙ e in absurd cc) (λ f. records-none b f)
+
+  -- and the other way round: the first of the heads is that of the record at the front
+  pub first_head : {h : Head} {hs : List Head} → heads b ≡ h ∷ hs → (Some h ≡ head_at b) × (hs ≡ heads (drop h.size b))
+  unfolding head_at
+  first_head {h} {hs} e =
+      by_test (starts_record b)
+      (λ f.
+      let z : head_of (front b) ∷ heads (drop (size_at b) b) ≡ h ∷ hs = sym (heads-one f) ∙ e in
+      let same : h ≡ head_of (front b) = cc in
+      (rw (f, same), rw (same, head-size f) cc))
+      (λ f. let z : [] ≡ h ∷ hs = sym (heads-none f) ∙ e in absurd cc)
+
+  -- it is behind the head, and within b
+  pub past_head : {h : Head} → Some h ≡ head_at b → (heads b ≡ h ∷ heads (drop h.size b)) × (h.size ≤ length b)
+  past_head {h} e =
+      let one = one_head e in
+      let n : h.size ≡ size_at b = rw one.1 (head-size one.0) in
+      let w = starts_within b one.0 in
+      (heads-one one.0 ∙ ap₂ (λ (x : Head) (k : ℕ). x ∷ heads (drop k b)) (sym one.1) (sym n), omega (arith, size_starts b one.0))

@@ -1,14 +1,14 @@
 -- What is read of bytes is proper, and so is what putting and collecting make of it; reading and writing are each other's inverse.
-use Rattle.shelf.proofs.Names.{AllProper, AreBytes, Bool, Head, List, Proper, Record, [], ◌++◌, ◌+◌, ◌-◌, ◌<◌, ◌∙◌, ◌∷◌, ◌≡◌, ◌≤◌}
+use Rattle.shelf.proofs.Names.{AllProper, AreBytes, Bool, Head, List, None, Proper, Record, Some, [], ◌++◌, ◌+◌, ◌-◌, ◌<◌, ◌∙◌, ◌∷◌, ◌≡◌, ◌≤◌}
 use Rattle.shelf.proofs.Names.{and_left, and_right, ap, arith, below_at, below-drop, below-take, by_test, bytes_of, bytes_of-number_of}
-use Rattle.shelf.proofs.Names.{drop, drop-append_seam, drop-drop, eqb, eqb-true, fitted, front, get_or, head_at, is_current_of, label_of}
+use Rattle.shelf.proofs.Names.{drop, drop-append_seam, drop-drop, eqb, eqb-true, fitted, front, get_or, head_at, heads, is_current_of, label_of}
 use Rattle.shelf.proofs.Names.{le-leb, leb, length, length-append, length-drop, length-take, length-take-le, lit<, mark_of, marked}
-use Rattle.shelf.proofs.Names.{mod-eq_of_lt, ne_eqb, number_of-bytes_of, number_of-lt, records, refl, size_at, starts_record, stored, suc}
+use Rattle.shelf.proofs.Names.{mod-eq_of_lt, number_of-bytes_of, number_of-lt, records, refl, size_at, starts_record, stored, suc}
 use Rattle.shelf.proofs.Names.{supersede, sym, take, take-add, take-length, take-nil, take-take, those, true, with_new, word_at}
 use Rattle.shelf.proofs.Names.{written, zero, ℕ}
 use lib.Seq.{take-append_seam}
-use Rattle.shelf.proofs.Reading.{starts_size, length-sealed, records-none, records-one, by_records, length-written, starts_within}
-use Rattle.shelf.proofs.Reading.{size_starts, records-empty}
+use Rattle.shelf.proofs.Reading.{length-sealed, records-none, records-one, by_records, length-written, starts_within, size_starts}
+use Rattle.shelf.proofs.Reading.{records-empty, no_head, no_heads, one_head, head-size, first_head}
 
 module _ (b : List ℕ) (small : AreBytes b) where
   abbrev four : ℕ → List ℕ
@@ -107,10 +107,6 @@ stored-front =
     rw (records-one b f, front-written b small f, length-append, l, take-add)
     (ap (λ (x : List ℕ). take (size_at b) b ++ x) (more (below-drop 256 (size_at b) b small))))
 
--- there is no more of that than there are bytes
-pub stored-within : (b : List ℕ) → AreBytes b → length (stored (records b)) ≤ length b
-stored-within b small = omega (arith, ap length (stored-front b small) ∙ length-take (length (stored (records b))) b)
-
 -- records that fill the bytes are the bytes
 pub stored-records : (b : List ℕ) → AreBytes b → length (stored (records b)) ≡ length b → stored (records b) ≡ b
 stored-records b small e = stored-front b small ∙ ap (λ (k : ℕ). take k b) e ∙ take-length b
@@ -181,31 +177,37 @@ pub record Turn (s : List ℕ) (used at : ℕ) (h : Head) : Type 0 where
   pub reads : records (between at used s) ≡ entry (between at used s) h ∷ records (between (at + h.size) used s)
   pub whole : length (written (entry (between at used s) h)) ≡ h.size
 
-module _ (s : List ℕ) (used at : ℕ) (h : Head) (e : h ≡ head_at (between at used s)) where
-  head-size : h.size ≡ size_at (between at used s)
-  unfolding head_at size_at
-  head-size = rw e (by_test (starts_record (between at used s)) (λ f. rw f) (λ f. rw f))
-
+module _ (s : List ℕ) (used at : ℕ) where
   -- nothing stands there
-  pub at-end : h.size ≡ 0 → records (between at used s) ≡ []
-  at-end z = records-none (between at used s) (starts_size (between at used s) ∙ rw (sym head-size ∙ z))
+  pub at-end : None ≡ head_at (between at used s) → records (between at used s) ≡ []
+  at-end e = records-none (between at used s) (no_head (between at used s) e)
 
-  pub on : (h.size ≡ 0 → ⊥) → Turn s used at h
-  unfolding front head_at
-  on z =
+  pub on : {h : Head} → Some h ≡ head_at (between at used s) → Turn s used at h
+  unfolding front
+  on {h} e =
       let b = between at used s in
-      let f : starts_record b ≡ true = starts_size b ∙ rw (ne_eqb (size_at b) 0 (λ y. z (head-size ∙ y))) in
+      let one = one_head b e in
+      let f = one.0 in
       let w = starts_within b f in
-      let n : h.size ≡ 12 + word_at b 8 = head-size ∙ size_starts b f in
-      let k : h.size - 12 ≡ word_at b 8 = omega arith in
+      let n : h.size ≡ size_at b = rw one.1 (head-size b f) in
+      let k : h.size - 12 ≡ word_at b 8 = omega (arith, size_starts b f) in
       let l = simp (length-take, length-drop) at w.2 in
-      let same : front b ≡ entry b h = rw k (rw (e, f)) in
+      let same : front b ≡ entry b h = rw k (rw one.1) in
       record {
         proper = λ small. rw (← same) (front-proper b small f);
-        bytes = λ small. rw (← same, front-written b small f, ← head-size) (take-take h.size (used - at) (drop at s) (omega arith));
-        long = omega arith;
-        within = omega arith;
-        inside = omega arith;
-        reads = records-one b f ∙ rw (same, ← head-size, between_on at used h.size s);
-        whole = rw (← same) (length-written (front b) ∙ rw (length-sealed b f, n));
+        bytes = λ small. rw (← same, front-written b small f, ← n) (take-take h.size (used - at) (drop at s) (omega (arith, size_starts b f)));
+        long = omega (arith, size_starts b f);
+        within = omega (arith, size_starts b f);
+        inside = omega (arith, size_starts b f);
+        reads = records-one b f ∙ rw (same, ← n, between_on at used h.size s);
+        whole = rw (← same) (length-written (front b) ∙ rw (length-sealed b f) (omega (arith, size_starts b f)));
       }
+
+  -- where the heads of what is there begin with one
+  pub walk_on : {h : Head} {hs : List Head} → heads (between at used s) ≡ h ∷ hs
+      → Turn s used at h × (hs ≡ heads (between (at + h.size) used s))
+  walk_on {h} e = let f = first_head (between at used s) e in (on f.0, f.1 ∙ ap heads (between_on at used h.size s))
+
+  -- and where there are none
+  pub walk_over : heads (between at used s) ≡ [] → records (between at used s) ≡ []
+  walk_over e = no_heads (between at used s) e

@@ -1,14 +1,16 @@
 -- Where a shelf breaks off: all is in order where no job has two current records, and otherwise less than all; so a shelf is bad
 -- exactly where it is not in order up to its used count.
 use Rattle.shelf.proofs.Names.{AreBytes, Head, InOrder, List, Record, [], ◌&&◌, ◌++◌, ◌+◌, ◌-◌, ◌<◌, ◌∙◌, ◌∷◌, ◌≡◌, ◌≤◌, and_left}
-use Rattle.shelf.proofs.Names.{and_right, ap, append_assoc, append-nil, ap₂, arith, bad_shelf, below-drop, below-take, by_test, drop}
-use Rattle.shelf.proofs.Names.{eq-eqb, eqb, eqb-true, false, has_current, head_at, is_current_of, le-ltb, length, length-append}
+use Rattle.shelf.proofs.Names.{and_right, ap, append_assoc, append-nil, ap₂, arith, bad_shelf, below-drop, below-take, by_test, checked, drop}
+use Rattle.shelf.proofs.Names.{eq-eqb, eqb, eqb-true, false, has_current, is_current_of, le-ltb, length, length-append}
 use Rattle.shelf.proofs.Names.{length-take-le, ltb, ltb-false, ne_eqb, not, not-false, or-false, or-true, records, refl, sound_from}
 use Rattle.shelf.proofs.Names.{sound_up_to, stored, sub-zero, sym, take, take-add, take-length, those, true, two_current, written}
 use Rattle.shelf.proofs.Names.{zero-add, ℕ}
-use Rattle.shelf.proofs.Reading.{length-written, records-empty}
-use Rattle.shelf.proofs.ReadsProper.{between, Turn, entry, at-end, stored-records, records-stored, more_proper, records-proper}
-use Rattle.shelf.proofs.ReadsProper.{stored-within}
+use Rattle.std.specs.Prelude.{Ok, Err}
+use Rattle.shelf.specs.declared.Unshelved.{Unshelved}
+use Rattle.shelf.specs.declared.Unshelved.TheVariants.{BadShelf}
+use Rattle.shelf.proofs.Reading.{length-written, records-empty, stored-within}
+use Rattle.shelf.proofs.ReadsProper.{between, Turn, entry, stored-records, records-stored, more_proper, records-proper}
 use Rattle.shelf.proofs.Walks.{none-current, or_left, or_right}
 use Rattle.shelf.proofs.Putting.{stored-new, those-append}
 use Rattle.shelf.proofs.Current.{current-none, own_current, at_most_one, no_two}
@@ -68,9 +70,9 @@ passing_starts s =
     record { within = omega arith; whole = rw records-empty; sum = rw (records-empty, sub-zero, take-length, zero-add) }
 
 module _ {s : List ℕ} {at : ℕ} (p : Passing s at) where
-  pub passed_all : {h : Head} → h ≡ head_at (between at (length s) s) → h.size ≡ 0 → at ≡ sound_up_to (records s)
+  pub passed_all : records (between at (length s) s) ≡ [] → at ≡ sound_up_to (records s)
   unfolding sound_from
-  passed_all e z = omega (arith, rw (at-end s (length s) at _ e z) at p.sum)
+  passed_all e = omega (arith, rw e at p.sum)
 
   module _ {h : Head} (turn : Turn s (length s) at h) where
     pub second : h.current && has_current h.job (records (take at s)) ≡ true → at ≡ sound_up_to (records s)
@@ -98,12 +100,12 @@ module _ {s : List ℕ} {at : ℕ} (p : Passing s at) where
           }
 
 module _ (shelf : List ℕ) (used : ℕ) where
-  pub bad-records : AreBytes shelf → length shelf ≤ 65536 → used ≤ length shelf
+  pub bad-records : length shelf ≤ 65536 → used ≤ length shelf
       → not (eqb (sound_up_to (records (take used shelf))) used) ≡ bad_shelf shelf used
   unfolding bad_shelf two_current
-  bad-records small h k =
+  bad-records h k =
       let rs = records (take used shelf) in
-      let n = stored-within (take used shelf) (below-take 256 used shelf small) in
+      let n = stored-within (take used shelf) in
       let l : length (take used shelf) ≡ used = length-take-le used shelf k in
       rw (le-ltb 65536 (length shelf) h, le-ltb (length shelf) used k)
       (by_test (two_current rs)
@@ -126,3 +128,13 @@ module _ (shelf : List ℕ) (used : ℕ) where
   pub not-bad : InOrder shelf used → bad_shelf shelf used ≡ false
   unfolding bad_shelf
   not-bad o = rw (le-ltb _ _ o.size, le-ltb _ _ o.within, eq-eqb _ _ o.fills, o.single)
+
+-- what a call is told of a shelf first
+pub refused : (shelf : List ℕ) (used : ℕ) {x : Unshelved} → Err x ≡ checked shelf used → (x ≡ BadShelf) × (bad_shelf shelf used ≡ true)
+refused shelf used {x} e =
+    by_test (bad_shelf shelf used) (λ f. let z = rw f at e in (cc, f))
+    (λ f. let z = rw f at e in absurd cc)
+
+pub passed : (shelf : List ℕ) (used : ℕ) {u : Unit {0}} → Ok u ≡ checked shelf used → bad_shelf shelf used ≡ false
+passed shelf used {u} e =
+    by_test (bad_shelf shelf used) (λ f. let z = rw f at e in absurd cc) (λ f. f)

@@ -1,11 +1,10 @@
 -- What the three calls leave, from the inputs alone. The numbers are those of W10.
-use Rattle.std.specs.Prelude.{ℕ, ◌+◌, Bool, true, cond, List, [], ltb, length, take, drop}
+use Rattle.std.specs.Prelude.{ℕ, ◌+◌, Bool, true, cond, List, [], Result, Ok, Err, ltb, length, take, drop}
 use Rattle.block.specs.Over.{over}
 use Rattle.shelf.specs.Records.{Record, stored, records}
 use Rattle.shelf.specs.Shelf.{collected, has_current, place_of, size_of, not_higher, with_new, fitted, bad_shelf}
-use Rattle.shelf.specs.declared.Ended.{Ended}
-use Rattle.shelf.specs.declared.Ended.TheVariants.{Done, BadShelf, NotHigher, NoRoom, NoCurrent}
-use Rattle.shelf.specs.declared.Kept.{Kept}
+use Rattle.shelf.specs.declared.Unshelved.{Unshelved}
+use Rattle.shelf.specs.declared.Unshelved.TheVariants.{BadShelf, NotHigher, NoRoom, NoCurrent}
 use Rattle.shelf.specs.declared.Found.{Found}
 
 -- what putting and collecting leave
@@ -68,17 +67,26 @@ part_of p shelf = cond (ltb (length shelf) (p.start + p.size)) [] (take p.size (
 abbrev pub looked_up : List ℕ → ℕ → ℕ → List ℕ
 looked_up shelf used job = part_of (find_call shelf used job) shelf
 
--- the number of an ending
-abbrev pub number_of_end : Ended → ℕ
-number_of_end Done = 0
+-- what every call is told first
+abbrev pub checked : List ℕ → ℕ → Result (Unit {0}) Unshelved
+checked shelf used = cond (bad_shelf shelf used) (Err BadShelf) (Ok tt)
+
+-- the number of a refusal
+abbrev pub number_of_end : Unshelved → ℕ
 number_of_end BadShelf = 19
 number_of_end NotHigher = 20
 number_of_end NoRoom = 21
 number_of_end NoCurrent = 22
 
--- what an answer and the buffer spell
-abbrev pub outcome_of : Kept → List ℕ → Outcome
-outcome_of k shelf = record { number = number_of_end k.ended; used = k.used; bytes = shelf }
+-- what an answer and the buffer spell, of a call that came with a used count: a refusal leaves that count
+abbrev pub outcome_of : ℕ → Result ℕ Unshelved → List ℕ → Outcome
+outcome_of came (Ok used) shelf = record { number = 0; used = used; bytes = shelf }
+outcome_of came (Err refused) shelf = record { number = number_of_end refused; used = came; bytes = shelf }
 
-abbrev pub place_in : Found → Place
-place_in f = record { number = number_of_end f.ended; start = f.start; size = f.length }
+-- the place of what was found
+abbrev pub place_at : Found → Place
+place_at f = record { number = 0; start = f.start; size = f.length }
+
+abbrev pub place_in : Result Found Unshelved → Place
+place_in (Ok f) = place_at f
+place_in (Err refused) = nowhere (number_of_end refused)

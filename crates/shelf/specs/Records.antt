@@ -1,6 +1,6 @@
 -- The records of a shelf: how they are written, one after another, and how they are read. Numbers are big-endian.
-use Rattle.std.specs.Prelude.{ℕ, zero, suc, ◌+◌, ◌-◌, ◌<◌, ◌^◌, Bool, false, ◌&&◌, ◌||◌, cond, List, [], ◌∷◌, ◌++◌}
-use Rattle.std.specs.Prelude.{leb, eqb, length, get_or, take, drop}
+use Rattle.std.specs.Prelude.{ℕ, zero, suc, ◌+◌, ◌-◌, ◌<◌, ◌^◌, Bool, ◌&&◌, ◌||◌, cond, List, [], ◌∷◌, ◌++◌}
+use Rattle.std.specs.Prelude.{Option, Some, None, leb, eqb, length, get_or, take, drop, map}
 use Rattle.block.specs.Below.{AreBytes}
 use Rattle.block.specs.BigEndian.{number_of, bytes_of}
 use Rattle.block.specs.Words.{word_at}
@@ -68,9 +68,14 @@ read_up_to (suc n) b = cond (starts_record b) (front b ∷ read_up_to n (drop (s
 unfoldable pub records : List ℕ → List Record
 records b = read_up_to (length b) b
 
--- the head of the record at the front of b, all 0 where there is none
-unfoldable pub head_at : List ℕ → Head
-head_at b =
-    cond (starts_record b)
-    (record { size = size_at b; current = (front b).current; job = (front b).job; edition = (front b).edition })
-    (record { size = 0; current = false; job = 0; edition = 0 })
+-- what the head of a record says
+abbrev pub head_of : Record → Head
+head_of r = record { size = length (written r); current = r.current; job = r.job; edition = r.edition }
+
+-- the head of the record at the front of b; none where no record stands whole there
+unfoldable pub head_at : List ℕ → Option Head
+head_at b = cond (starts_record b) (Some (head_of (front b))) None
+
+-- the heads of all its records
+unfoldable pub heads : List ℕ → List Head
+heads b = map head_of (records b)

@@ -1,8 +1,10 @@
 -- What the steps of the calls are proved to do, and where a shelf that is refused breaks off. No call's definition rests on these.
-use Rattle.std.specs.Prelude.{ℕ, ◌+◌, ◌≤◌, ◌≡◌, Bool, false, true, not, ◌&&◌, cond, List, [], ◌∷◌, ◌++◌, ltb, leb, eqb, length, take}
-use Rattle.shelf.specs.Records.{Record, written, stored, records}
-use Rattle.shelf.specs.Shelf.{collected, has_current, two_current, supersede, those, place_of, size_of}
-use Rattle.shelf.specs.declared.lookup.Told.{Told}
+use Rattle.std.specs.Prelude.{ℕ, ◌+◌, ◌≤◌, ◌≡◌, Bool, false, not, ◌&&◌, cond, List, [], ◌∷◌, ◌++◌, Option, Some, None, ltb, eqb, length, take}
+use Rattle.shelf.specs.Records.{Record, written, stored, records, heads}
+use Rattle.shelf.specs.Shelf.{collected, has_current, two_current, supersede}
+use Rattle.shelf.specs.declared.Found.{Found}
+use Rattle.shelf.specs.declared.lookup.Heads.{Heads}
+use Rattle.shelf.specs.declared.records.Head.{Head}
 
 -- a shelf that is not bad
 pub record InOrder (shelf : List ℕ) (used : ℕ) : Type 0 where
@@ -22,22 +24,26 @@ sound_from passed (r ∷ rs) =
 abbrev pub sound_up_to : List Record → ℕ
 sound_up_to rs = sound_from [] rs
 
+-- whether a new record of that job is coming
+abbrev pub comes : Option ℕ → ℕ → Bool
+comes None job = false
+comes (Some new) job = eqb job new
+
 -- what a collection keeps: the current records, but not that of a job whose new record is coming
-abbrev pub stays : Bool → ℕ → Record → Bool
-stays coming job r = not (coming && eqb r.job job) && r.current
+abbrev pub stays : Option ℕ → Record → Bool
+stays coming r = not (comes coming r.job) && r.current
 
 -- what stands before a new record with so many sealed bytes
 unfoldable pub room_made : ℕ → ℕ → ℕ → List Record → List Record
 room_made room n job rs =
     cond (ltb room (length (stored rs) + (12 + n))) (collected (supersede job rs)) (supersede job rs)
 
--- the records of a job with at least this edition
-abbrev pub reaches : ℕ → ℕ → Record → Bool
-reaches job edition r = eqb r.job job && leb edition r.edition
+-- the heads that a walk has still before it
+abbrev pub heads_left : Heads → List Head
+heads_left w = heads w.0.now
 
--- what a walk over the records tells of a job and an edition
-pub record Surveyed (job edition : ℕ) (rs : List Record) (told : Told) : Type 0 where
-  pub start : told.start ≡ place_of job rs
-  pub size : told.length ≡ size_of job rs
-  pub reached : told.reached ≡ length (stored (those (reaches job edition) rs))
-  pub kept : told.kept ≡ length (stored (those (stays true job) rs))
+-- a job's current record among the records with these heads, with `start` bytes before them
+unfoldable pub current_in : ℕ → ℕ → List Head → Option Found
+current_in job start [] = None
+current_in job start (h ∷ hs) =
+    cond (h.current && eqb h.job job) (Some (record { start = start; length = h.size })) (current_in job (start + h.size) hs)

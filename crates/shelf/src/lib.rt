@@ -1,5 +1,6 @@
 // A shelf: sealed files in one lent buffer, as records one after another. A job has one current record, or none; putting in a
-// new edition supersedes it, and collection throws out what is superseded.
+// new edition supersedes it, and collection throws out what is superseded. The used count stands beside the buffer, since a put
+// writes behind it, and since the C calls pass both.
 
 #![tactic(auto)]
 
@@ -8,143 +9,95 @@ pub mod lookup;
 pub mod records;
 
 ghost use Rattle.std.specs.Prelude.{◌≡◌};
-ghost use Rattle.shelf.specs.Shelf.{bad_shelf};
-ghost use Rattle.shelf.specs.Calls.{number_of_end, outcome_of, put_call, collect_call, place_in, find_call, part_of};
+ghost use Rattle.shelf.specs.Calls.{checked, number_of_end, outcome_of, put_call, collect_call, place_in, place_at, find_call, part_of};
 
 // The most bytes of a buffer.
 const MOST: usize = 65536;
 
-// How a call ended. A bad shelf is a buffer over 65,536 bytes, records that do not fill the used count exactly, an unknown mark,
-// or two current records of one job.
-#[derive(Clone, Copy)]
-pub enum Ended {
-    Done,
+// Why a call is refused. A bad shelf is a buffer over 65,536 bytes, records that do not fill the used count exactly, an unknown
+// mark, or two current records of one job.
+#[derive(Clone, Copy, PartialEq, Eq, Debug)]
+pub enum Unshelved {
     BadShelf,
     NotHigher,
     NoRoom,
     NoCurrent,
 }
 
-// How putting or collecting ended, and how many bytes are used now: a refusal hands back the count that came.
-#[derive(Clone, Copy)]
-pub struct Kept {
-    pub ended: Ended,
-    pub used: usize,
-}
-
-// How looking up ended, and the job's current record as a part of the buffer; a refusal has 0 in both.
-#[derive(Clone, Copy)]
+// A job's current record as a part of the buffer. A range of usize would not be Copy.
+#[derive(Clone, Copy, PartialEq, Eq, Debug)]
 pub struct Found {
-    pub ended: Ended,
     pub start: usize,
     pub length: usize,
 }
 
-// The number of how a call ended (W10).
-pub fn number(ended: Ended) -> u32
-    ensures { result ≡ number_of_end ended }
+// The number of a refusal, as in docs/NUMBERS.md; the 0 of a call that is done stands in the definitions (`outcome_of`, `place_at`). No
+// From: docs/PROMISES.md has the calls of this crate by name.
+pub fn number(refused: Unshelved) -> u32
+    ensures { result ≡ number_of_end refused }
 {
-    match ended {
-        Ended::Done => 0,
-        Ended::BadShelf => 19,
-        Ended::NotHigher => 20,
-        Ended::NoRoom => 21,
-        Ended::NoCurrent => 22,
+    match refused {
+        Unshelved::BadShelf => 19,
+        Unshelved::NotHigher => 20,
+        Unshelved::NoRoom => 21,
+        Unshelved::NoCurrent => 22,
     }
 }
 
-fn bad(shelf: &[u8], used: usize) -> bool
-    ensures { result ≡ bad_shelf shelf.now used }
+fn check(shelf: &[u8], used: usize) -> Result<(), Unshelved>
+    ensures { result ≡ checked shelf.now used }
 {
-    if shelf.len() > MOST {
-        return true;
+    if shelf.len() > MOST || used > shelf.len() || lookup::sound_up_to(&shelf[..used]) != used {
+        return Err(Unshelved::BadShelf);
     }
-    if used > shelf.len() {
-        return true;
-    }
-    lookup::sound_up_to(&shelf[0..used]) != used
+    Ok(())
 }
 
-// Puts in an edition of a job, which must be higher than every one of it on the shelf. All is decided before the first byte is
-// written.
-pub fn put(shelf: &mut [u8], used: usize, job: u32, edition: u16, sealed: &[u8]) -> Kept
-    ensures { outcome_of result shelf.new ≡ put_call shelf.old used job edition sealed.now }
+// Puts in an edition of a job, which must be higher than every one of it on the shelf, and hands back how many bytes are used now.
+// All is decided before the first byte is written.
+pub fn put(
+    shelf: &mut [u8],
+    used: usize,
+    job: u32,
+    edition: u16,
+    sealed: &[u8],
+) -> Result<usize, Unshelved>
+    ensures { outcome_of used result shelf.new ≡ put_call shelf.old used job edition sealed.now }
 {
-    if bad(shelf, used) {
-        let ended = Ended::BadShelf;
-        return Kept { ended, used };
-    }
-    let told = lookup::survey(shelf, used, job, edition);
-    if told.reached > 0 {
-        let ended = Ended::NotHigher;
-        return Kept { ended, used };
+    check(shelf, used)?;
+    if lookup::reached(&shelf[..used], job, edition) {
+        return Err(Unshelved::NotHigher);
     }
     let n = sealed.len();
-    if change::short(shelf.len(), told.kept, n) {
-        let ended = Ended::NoRoom;
-        return Kept { ended, used };
+    if change::short(shelf.len(), lookup::kept(&shelf[..used], Some(job)), n) {
+        return Err(Unshelved::NoRoom);
     }
     let at = change::make_room(shelf, used, job, n);
     change::write(job, edition, sealed, &mut shelf[at..]);
-    let ended = Ended::Done;
-    Kept {
-        ended,
-        used: at + (records::HEAD + n),
-    }
+    Ok(at + (records::HEAD + n))
 }
 
-// Throws out every superseded record.
-pub fn collect(shelf: &mut [u8], used: usize) -> Kept
-    ensures { outcome_of result shelf.new ≡ collect_call shelf.old used }
+// Throws out every superseded record, and hands back how many bytes are used now.
+pub fn collect(shelf: &mut [u8], used: usize) -> Result<usize, Unshelved>
+    ensures { outcome_of used result shelf.new ≡ collect_call shelf.old used }
 {
-    if bad(shelf, used) {
-        let ended = Ended::BadShelf;
-        return Kept { ended, used };
-    }
-    let kept = change::keep(shelf, used, false, 0);
-    let ended = Ended::Done;
-    Kept { ended, used: kept }
+    check(shelf, used)?;
+    Ok(change::keep(shelf, used, None))
 }
 
 // Looks up a job's current record. Nothing is copied.
-pub fn find(shelf: &[u8], used: usize, job: u32) -> Found
+pub fn find(shelf: &[u8], used: usize, job: u32) -> Result<Found, Unshelved>
     ensures { place_in result ≡ find_call shelf.now used job }
 {
-    if bad(shelf, used) {
-        return Found {
-            ended: Ended::BadShelf,
-            start: 0,
-            length: 0,
-        };
-    }
-    let told = lookup::survey(shelf, used, job, 0);
-    if told.length == 0 {
-        return Found {
-            ended: Ended::NoCurrent,
-            start: 0,
-            length: 0,
-        };
-    }
-    Found {
-        ended: Ended::Done,
-        start: told.start,
-        length: told.length,
-    }
+    check(shelf, used)?;
+    lookup::current(&shelf[..used], job).ok_or(Unshelved::NoCurrent)
 }
 
-// The record found, as a part of the buffer that was asked; an empty part in a refusal, and where an answer that a caller made up
-// points outside.
+// The record found, as a part of the buffer that was asked; an empty part where an answer that a caller made up points outside. The two
+// lines stand in `editions::part` too, and are no plainer by a function of `block` with a definition of its own.
 pub fn part(shelf: &[u8], found: Found) -> &[u8]
-    ensures { result.now ≡ part_of (place_in found) shelf.now }
+    ensures { result.now ≡ part_of (place_at found) shelf.now }
 {
-    let start = found.start;
-    let length = found.length;
-    if start > shelf.len() {
-        return &shelf[0..0];
-    }
-    if length > shelf.len() - start {
-        return &shelf[0..0];
-    }
-    let end = start + length;
-    &shelf[start..end]
+    let behind = shelf.get(found.start..).unwrap_or(&[]);
+    behind.get(..found.length).unwrap_or(&[])
 }

@@ -1,72 +1,71 @@
-// What the records of a shelf say: its first `used` bytes are its records.
-ghost use Rattle.std.specs.Prelude.{◌≡◌, ◌&&◌, cond, ◌+◌, ◌≤◌, ◌<◌, ◌^◌, length, take};
-ghost use Rattle.shelf.specs.Records.{records};
-ghost use Rattle.shelf.specs.Shelf.{has_current};
-ghost use Rattle.shelf.specs.Steps.{sound_up_to, Surveyed};
+// What the records of a shelf say: here `used` is its used bytes, which are its records.
+ghost use Rattle.std.specs.Prelude.{◌≡◌, length};
+ghost use Rattle.shelf.specs.Records.{stored, records, heads};
+ghost use Rattle.shelf.specs.Shelf.{has_current, not_higher, those};
+ghost use Rattle.shelf.specs.Steps.{sound_up_to, stays, current_in};
 
-use crate::records;
 use crate::records::Head;
+use crate::{Found, records};
 
-// What the records say of a job and an edition, in bytes: those before the job's current record, those of that record, those of its
-// records with at least this edition, and those of the current records of all other jobs.
+// The heads of the records, one after another, as far as they stand whole.
 #[derive(Clone, Copy)]
-pub(crate) struct Told {
-    pub start: usize,
-    pub length: usize,
-    pub reached: usize,
-    pub kept: usize,
-}
+struct Heads<'a>(&'a [u8]);
 
-// A record that passes a test counts.
-fn add(sum: usize, passes: bool, n: usize) -> usize
-    requires { sum + n < 2 ^ 64 }
-    ensures value { result ≡ cond passes (sum + n) sum }
-    ensures upper_bound { result ≤ sum + n }
-{
-    if passes {
-        return sum + n;
+impl<'a> Iterator for Heads<'a> {
+    ghost use Rattle.std.specs.Iterator.{YieldsFirst, item_count};
+    ghost use Rattle.shelf.specs.Steps.{heads_left};
+
+    type Item = Head;
+
+    ghost next_gives = { YieldsFirst heads_left };
+
+    ghost remaining = { item_count heads_left };
+
+    fn next(&mut self) -> Option<Head> {
+        let head = records::front(self.0)?;
+        self.0 = &self.0[head.size..];
+        Some(head)
     }
-    sum
 }
 
-pub(crate) fn survey(shelf: &[u8], used: usize, job: u32, edition: u16) -> Told
-    requires { used ≤ length shelf.now }
-    ensures { Surveyed job edition (records (take used shelf.now)) result }
+// Where a job's current record stands, if there is one.
+pub(crate) fn current(used: &[u8], job: u32) -> Option<Found>
+    ensures { result ≡ current_in job 0 (heads used.now) }
 {
-    let mut at = 0;
     let mut start = 0;
-    let mut length = 0;
-    let mut reached = 0;
-    let mut kept = 0;
-    loop {
-        let h = records::front(&shelf[at..used]);
-        let n = h.size;
-        if n == 0 {
-            return Told {
+    for head in Heads(used) {
+        if head.is_current_of(job) {
+            return Some(Found {
                 start,
-                length,
-                reached,
-                kept,
-            };
+                length: head.size,
+            });
         }
-        length = add(length, records::is_current_of(h, job), n);
-        start = add(start, length == 0, n);
-        reached = add(reached, records::reaches(h, job, edition), n);
-        kept = add(kept, records::stays(h, true, job), n);
-        at += n;
+        start += head.size;
     }
+    None
 }
 
-// Whether a record is current, and another one of its job in the first `at` bytes.
-fn is_second(s: &[u8], at: usize, h: Head) -> bool
-    requires { at ≤ length s.now }
-    ensures { result ≡ h.current && has_current h.job (records (take at s.now)) }
+fn has_current(used: &[u8], job: u32) -> bool
+    ensures { result ≡ has_current job (records used.now) }
 {
-    if h.current {
-        let found = survey(s, at, h.job, 0);
-        return found.length > 0;
-    }
-    false
+    Heads(used).any(|head| head.is_current_of(job))
+}
+
+// Whether some record of the job has at least this edition.
+pub(crate) fn reached(used: &[u8], job: u32, edition: u16) -> bool
+    ensures { result ≡ not_higher job edition (records used.now) }
+{
+    Heads(used).any(|head| head.reaches(job, edition))
+}
+
+// How many bytes a collection keeps.
+pub(crate) fn kept(used: &[u8], coming: Option<u32>) -> usize
+    ensures { result ≡ length (stored (those (stays coming) (records used.now))) }
+{
+    Heads(used)
+        .filter(|head| head.stays(coming))
+        .map(|head| head.size)
+        .sum()
 }
 
 // How many bytes are in order. A shelf whose used bytes are not all in order breaks off there: at a record that does not stand
@@ -75,15 +74,11 @@ pub fn sound_up_to(s: &[u8]) -> usize
     ensures { result ≡ sound_up_to (records s.now) }
 {
     let mut at = 0;
-    loop {
-        let h = records::front(&s[at..]);
-        let n = h.size;
-        if n == 0 {
+    for head in Heads(s) {
+        if head.current && has_current(&s[..at], head.job) {
             return at;
         }
-        if is_second(s, at, h) {
-            return at;
-        }
-        at += n;
+        at += head.size;
     }
+    at
 }

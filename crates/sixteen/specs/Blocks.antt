@@ -1,6 +1,6 @@
 -- Up to 64 blocks side by side: the words of block j are word j of four rows of 64 words. Sixteen words, from a multiple of sixteen on, are
 -- a group.
-use Rattle.std.specs.Prelude.{◌≡◌, List, [], ◌∷◌, ℕ, ◌+◌, ◌*◌, ◌/◌, ◌%◌, ◌^◌, ◌<◌, ◌≤◌, get_or, length}
+use Rattle.std.specs.Prelude.{◌≡◌, List, [], ◌∷◌, ℕ, ◌+◌, ◌*◌, ◌/◌, ◌%◌, ◌^◌, ◌<◌, ◌≤◌, get_or}
 use Rattle.block.specs.Xor.{◌⊕◌}
 pub use Rattle.lanes.specs.Each.{Each}
 
@@ -38,9 +38,3 @@ pub record Changed (a n : ℕ) (f : ℕ → ℕ) (x y : List ℕ) : Type 0 where
   pub new : (j : ℕ) → j < n → get_or y (a + j) 0 ≡ f j
   pub below : (p : ℕ) → p < a → get_or y p 0 ≡ get_or x p 0
   pub above : (p : ℕ) → a + n ≤ p → get_or y p 0 ≡ get_or x p 0
-
--- the rows, and room to work in
-pub record Sized (x t s : List ℕ) : Type 0 where
-  pub lx : length x ≡ 256
-  pub lt : length t ≡ 64
-  pub ls : length s ≡ 64

@@ -1,13 +1,9 @@
 -- The S-boxes of a byte, column by column.
-use Rattle.sliced.proofs.Names.{Held, List, Masks, Sbox, SboxLanes, [], ◌%◌, ◌*◌, ◌+◌, ◌-◌, ◌/◌, ◌<◌, ◌^◌, ◌∙◌, ◌∷◌, ◌≡◌, ◌≤◌}
+use Rattle.sliced.proofs.Names.{Held, List, Masks, Sbox, SboxLanes, ◌%◌, ◌*◌, ◌+◌, ◌-◌, ◌/◌, ◌<◌, ◌^◌, ◌∙◌, ◌≡◌, ◌≤◌}
 use Rattle.sliced.proofs.Names.{add-zero, ap, ap₂, arith, bit, bit-mod, bit-pack, bit-shr, bit-small, bit-xor, byte_lane, column}
-use Rattle.sliced.proofs.Names.{each8, get_or, keyed, lane, length, lit<, lt-or-le, mod-eq_of_lt, mod-lt, one_more, pack, pack_is}
-use Rattle.sliced.proofs.Names.{puts, puts_in, puts_out, refl, subbed, summed, sym, tau-bit, ℕ, ⊎_elim}
+use Rattle.sliced.proofs.Names.{each8, get_or, keyed, lane, lit<, lt-or-le, mod-eq_of_lt, mod-lt, one_more, pack, pack_is}
+use Rattle.sliced.proofs.Names.{refl, subbed, summed, sym, tau-bit, ℕ, ⊎_elim}
 use Rattle.sliced.proofs.Held.{held_lane}
-
--- the first eight entries
-abbrev pub eight : List ℕ → List ℕ
-eight o = get_or o 0 0 ∷ get_or o 1 0 ∷ get_or o 2 0 ∷ get_or o 3 0 ∷ get_or o 4 0 ∷ get_or o 5 0 ∷ get_or o 6 0 ∷ get_or o 7 0 ∷ []
 
 column-word : (x y z m : List ℕ) (p i : ℕ) → i < 8 → get_or (column x y z m p) i 0 ≡ summed x y z m (p + 8 * i) i
 column-word x y z m p =
@@ -28,7 +24,7 @@ module _ (x y z m : List ℕ) (k b j n : ℕ) (hb : b < 4) (hj : j < 8) (hn : n 
   in_bit i h = ap (bit n) (column-word x y z m (64 * b + j) i h) ∙ sum-bit (64 * b + j + 8 * i) i h refl
 
   out-bit : (o : List ℕ) → SboxLanes (column x y z m (64 * b + j)) o → (i : ℕ) → i < 8
-      → bit n (get_or (eight o) i 0) ≡ bit (8 * b + i) (subbed x y z k (8 * n + j))
+      → bit n (get_or o i 0) ≡ bit (8 * b + i) (subbed x y z k (8 * n + j))
   unfolding byte_lane pack
   out-bit o ho i hi =
       let w = keyed x y z k (8 * n + j) in
@@ -36,7 +32,7 @@ module _ (x y z m : List ℕ) (k b j n : ℕ) (hb : b < 4) (hj : j < 8) (hn : n 
       let g : byte_lane q n ≡ w / 2 ^ (8 * b) % 256 =
       pack_is 8 (λ a. bit n (get_or q a 0)) (w / 2 ^ (8 * b) % 256) (λ a. bit-small n (get_or q a 0)) (mod-lt (w / 2 ^ (8 * b)) (lit< tt))
       (λ a ha. in_bit a ha ∙ sym (bit-mod 8 a (w / 2 ^ (8 * b)) ha ∙ bit-shr (8 * b) a w)) in
-      sym (bit-pack 8 (λ a. bit n (get_or (eight o) a 0)) (λ a. bit-small n (get_or (eight o) a 0)) i hi)
+      sym (bit-pack 8 (λ a. bit n (get_or o a 0)) (λ a. bit-small n (get_or o a 0)) i hi)
       ∙ ap (bit i) (ho n hn ∙ ap Sbox g)
       ∙ sym (tau-bit b i w hb hi)
 
@@ -60,17 +56,15 @@ columns_last f n b j s hb hj C p k hp hc hk =
     ap (λ (q : ℕ). bit k (get_or s q 0)) e ∙ C.1 (p % 8) i k (omega arith) (omega arith) hk
     ∙ ap (λ (r : ℕ). bit r (f (8 * k + p % 8))) (u ∙ sym (mod-eq_of_lt r))) (lt-or-le p (64 * b))
 
-module _ (x y z m : List ℕ) (key n b j : ℕ) (s o : List ℕ) (hb : b < 4) (hj : j < 8) (hm : Masks 8 (λ i. bit (8 * b + i) key) m)
-    (hs : length s ≡ 512) (ho : SboxLanes (column x y z m (64 * b + j)) o) where
-  pub columns_next : Columns (subbed x y z key) n b j s → Columns (subbed x y z key) n b (j + 1) (puts 8 s (64 * b + j) 0 (eight o))
-  columns_next C =
-      let q = 64 * b + j in
-      let t = puts 8 s q 0 (eight o) in
-      let kept : (p : ℕ) → ((i : ℕ) → p ≡ q + 0 + 8 * i → ⊥) → get_or t p 0 ≡ get_or s p 0 = puts_out 8 (eight o) s q 0 in (
-        λ p k hp hc hk. ap (bit k) (kept p (λ i e. omega arith)) ∙ C.0 p k hp hc hk,
-        λ c i k hc hi hk.
-            one_more (λ c. bit k (get_or t (64 * b + c + 8 * i) 0) ≡ bit (8 * b + i) (subbed x y z key (8 * k + c))) j
-            (ap (bit k) (puts_in 8 (eight o) s q 0 i (q + 8 * i) (omega arith) (lit< tt) hi (omega arith))
-            ∙ out-bit x y z m key b j k hb hj hk hm o ho i hi)
-            (λ c g. ap (bit k) (kept (64 * b + c + 8 * i) (λ r e. omega arith)) ∙ C.1 c i k g hi hk) c hc,
-      )
+module _ (x y z m : List ℕ) (key n b j : ℕ) (s t o : List ℕ) (hb : b < 4) (hj : j < 8) (hm : Masks 8 (λ i. bit (8 * b + i) key) m)
+    (ho : SboxLanes (column x y z m (64 * b + j)) o) (placed : (i : ℕ) → i < 8 → get_or t (64 * b + j + 8 * i) 0 ≡ get_or o i 0)
+    (kept : (q : ℕ) → ((i : ℕ) → i < 8 → q ≡ 64 * b + j + 8 * i → ⊥) → get_or t q 0 ≡ get_or s q 0) where
+  pub columns_next : Columns (subbed x y z key) n b j s → Columns (subbed x y z key) n b (j + 1) t
+  columns_next C = (
+    λ p k hp hc hk. ap (bit k) (kept p (λ i h e. omega arith)) ∙ C.0 p k hp hc hk,
+    λ c i k hc hi hk.
+        one_more (λ c. bit k (get_or t (64 * b + c + 8 * i) 0) ≡ bit (8 * b + i) (subbed x y z key (8 * k + c))) j
+        (ap (bit k) (placed i hi)
+        ∙ out-bit x y z m key b j k hb hj hk hm o ho i hi)
+        (λ c g. ap (bit k) (kept (64 * b + c + 8 * i) (λ r h e. omega arith)) ∙ C.1 c i k g hi hk) c hc,
+  )

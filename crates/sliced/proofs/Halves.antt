@@ -1,28 +1,29 @@
 -- Transposed halves of blocks are lanes, and lanes transposed are halves of blocks.
-use Rattle.sliced.proofs.Names.{Halved, List, Parted, Row, Rows, Turned, [], ◌%◌, ◌*◌, ◌+◌, ◌/◌, ◌<◌, ◌^◌, ◌∙◌, ◌∷◌, ◌≡◌, ◌≤◌}
-use Rattle.sliced.proofs.Names.{add-zero, ap, arith, at, below_at, bit, bit-shr, encrypt_words, four_entries, get_or, lane, lanes}
-use Rattle.sliced.proofs.Names.{length, lit<, mod_is, one_more, place, puts, puts_in, puts_out, refl, rounds, set, subst, sym}
-use Rattle.sliced.proofs.Names.{turned, word_more, ℕ}
+use Rattle.sliced.proofs.Names.{Halved, List, Parted, Row, Rows, Turned, ◌%◌, ◌*◌, ◌+◌, ◌-◌, ◌/◌, ◌<◌, ◌^◌, ◌∙◌, ◌≡◌, ◌≤◌}
+use Rattle.sliced.proofs.Names.{◌++◌, ap, arith, at, below_at, bit, bit-shr, drop, encrypt_words, four_entries, get_or, get_or-append, get_or-append_right, get_or-drop, get_or-take, lane, lanes}
+use Rattle.sliced.proofs.Names.{length, lit<, mod_is, place, refl, rounds, subst, sym, take, take_at}
+use Rattle.sliced.proofs.Names.{turned, ℕ}
 use Rattle.sliced.proofs.Held.{lane-lt, lane-bit, lanes-words}
 
-pub parted_next : (a upper lower : List ℕ) (i : ℕ) → i < 256 → length upper ≡ 256 → length lower ≡ 256 → Parted i a upper lower
-    → Parted (i + 1) a (set upper i (get_or a (i + 256) 0)) (set lower i (get_or a i 0))
-parted_next a upper lower i h hu hl P = record {
-  up = word_more i _ upper (omega arith) (λ m v. get_or a (m + 256) 0 ≡ v) refl P.up;
-  low = word_more i _ lower (omega arith) (λ m v. get_or a m 0 ≡ v) refl P.low;
+-- halves that were copied out of a, and into it
+pub parted : (a upper lower : List ℕ) → upper ≡ take 256 (drop 256 a) → lower ≡ take 256 a → Parted 256 a upper lower
+parted a upper lower u l = record {
+  up = λ m h.
+      let e : 256 + m ≡ m + 256 = omega arith in
+      rw u (sym (get_or-take 256 (drop 256 a) m 0 h ∙ get_or-drop 256 a m 0 ∙ ap (λ (z : ℕ). get_or a z 0) e));
+  low = λ m h. rw l (sym (get_or-take 256 a m 0 h));
 }
 
-pub joined-next : (a upper lower : List ℕ) (i : ℕ) → i < 256 → length a ≡ 512 → Parted i a upper lower
-    → Parted (i + 1) (set (set a i (get_or lower i 0)) (i + 256) (get_or upper i 0)) upper lower
-joined-next a upper lower i h ha P =
-    let v = get_or lower i 0 ∷ get_or upper i 0 ∷ [] in
-    let J : Parted (i + 1) (puts 256 a i 0 v) upper lower = record {
-      up = one_more _ i (puts_in 256 v a i 0 1 (i + 256) (omega arith) (lit< tt) (lit< tt) (omega arith))
-          (λ m g. puts_out 256 v a i 0 (m + 256) (λ k q. omega arith) ∙ P.up m g);
-      low = one_more _ i (puts_in 256 v a i 0 0 i (omega arith) (lit< tt) (lit< tt) (omega arith))
-          (λ m g. puts_out 256 v a i 0 m (λ k q. omega arith) ∙ P.low m g);
-    } in
-    rw add-zero at J
+pub joined : (upper lower x y : List ℕ) → length upper ≡ 256 → length lower ≡ 256
+    → Parted 256 (take 256 (lower ++ x) ++ (upper ++ y)) upper lower
+joined upper lower x y nu nl =
+    rw (take_at lower x 256 nl) (record {
+      up = λ m h.
+          let a : length lower ≤ m + 256 = omega arith in
+          let e : m + 256 - length lower ≡ m = omega arith in
+          get_or-append_right lower (upper ++ y) (m + 256) 0 a ∙ rw e (get_or-append upper y 0 m (omega arith));
+      low = λ m h. get_or-append lower (upper ++ y) 0 m (omega arith);
+    })
 
 -- what is transposed is transposed back
 pub turned_back : (a₀ a : List ℕ) → Turned a₀ a → Turned a a₀

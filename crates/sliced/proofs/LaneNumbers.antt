@@ -1,6 +1,6 @@
 -- The plane of lane numbers: six rows that are the same in every column, three that are all ones or zero, and zeros.
-use Rattle.sliced.proofs.Names.{Clear, Held, List, [], ◌%◌, ◌*◌, ◌+◌, ◌-◌, ◌/◌, ◌<◌, ◌^◌, ◌∙◌, ◌∷◌, ◌≡◌, ◌≤◌, ap, ap₂, arith, bit}
-use Rattle.sliced.proofs.Names.{bit_high, bit-low, bit_past, bit-zero, get_or, get_or-set_other, lane, length, length-set, lt-or-le}
+use Rattle.sliced.proofs.Names.{Blank, Held, List, [], ◌%◌, ◌*◌, ◌+◌, ◌-◌, ◌/◌, ◌<◌, ◌^◌, ◌∙◌, ◌∷◌, ◌≡◌, ◌≤◌, ap, ap₂, arith, bit}
+use Rattle.sliced.proofs.Names.{bit_high, bit-low, bit_past, bit-zero, get_or, get_or-set_other, lane, length, lt-or-le}
 use Rattle.sliced.proofs.Names.{number_at, place, same_at, set, sym, ℕ, ⊎_elim}
 use Rattle.sliced.proofs.Held.{lane_held, held_next}
 
@@ -28,28 +28,27 @@ high_rows p r hp h k hk =
 
 -- the first p words hold the lanes' numbers, the others nothing
 abbrev pub Numbered : ℕ → List ℕ → Type 0
-Numbered p x = (length x ≡ 256) × Held number_at 8 p x × ((q : ℕ) → p ≤ q → get_or x q 0 ≡ 0)
+Numbered p x = Held number_at 8 p x × ((q : ℕ) → p ≤ q → get_or x q 0 ≡ 0)
 
-pub numbered-first : (x : List ℕ) → Clear x → Numbered 0 x
-numbered-first x h = (h.0, λ q k hq hc hk. absurd (omega arith), λ q g. h.1 q)
+pub numbered-first : (x : List ℕ) → Blank x → Numbered 0 x
+numbered-first x h = (λ q k hq hc hk. absurd (omega arith), λ q g. h q)
 
-pub numbered_next : (p v : ℕ) (x : List ℕ) → p < 256 → ((k : ℕ) → k < 64 → bit k v ≡ bit (p / 8) (number_at (8 * k + p % 8)))
+pub numbered_next : (p v : ℕ) (x : List ℕ) → p < 256 → length x ≡ 256 → ((k : ℕ) → k < 64 → bit k v ≡ bit (p / 8) (number_at (8 * k + p % 8)))
     → Numbered p x → Numbered (p + 1) (set x p v)
-numbered_next p v x hp hv N =
-    let l = N.0 in
+numbered_next p v x hp l hv N =
     let next = held_next number_at 8 p v x (omega arith)
-    (λ k hc hk. let r : p / 8 ≡ p / 8 % 32 = omega arith in hv k hk ∙ ap (λ (z : ℕ). bit z (number_at (8 * k + p % 8))) r) N.1 in
-    (length-set x p v ∙ l, next, λ q h. get_or-set_other x p q v 0 (λ e. omega arith) ∙ N.2 q (omega arith))
+    (λ k hc hk. let r : p / 8 ≡ p / 8 % 32 = omega arith in hv k hk ∙ ap (λ (z : ℕ). bit z (number_at (8 * k + p % 8))) r) N.0 in
+    (next, λ q h. get_or-set_other x p q v 0 (λ e. omega arith) ∙ N.1 q (omega arith))
 
 -- the rows that are left hold nothing
 pub numbered-last : (x : List ℕ) (p : ℕ) → 72 ≤ p → Numbered p x → (e : ℕ) → e < 512 → lane x e ≡ number_at e
 numbered-last x p hp N e he =
     lane_held number_at 8 x
     (λ q k hq hc hk.
-    ⊎_elim (λ (g : q < p). N.1 q k g hc hk)
+    ⊎_elim (λ (g : q < p). N.0 q k g hc hk)
     (λ (g : p ≤ q).
     let small : number_at (8 * k + q % 8) < 2 ^ 9 = omega arith in
-    ap (bit k) (N.2 q g) ∙ bit-zero k ∙ sym (bit_past 9 (q / 8 % 32) (number_at (8 * k + q % 8)) small (omega arith))) (lt-or-le q p))
+    ap (bit k) (N.1 q g) ∙ bit-zero k ∙ sym (bit_past 9 (q / 8 % 32) (number_at (8 * k + q % 8)) small (omega arith))) (lt-or-le q p))
     e he (omega arith) (omega arith)
 
 -- the lane of block i

@@ -1,6 +1,5 @@
 mod Names
 pub mod Held
-pub mod KeyBits
 pub mod Ripple
 pub mod LaneNumbers
 pub mod CounterDigits

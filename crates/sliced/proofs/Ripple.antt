@@ -1,8 +1,8 @@
 -- A word added in every lane, row by row with carries: after i rows the sums of the low i bits and the carries are what was to be added.
-use Rattle.sliced.proofs.Names.{Added, List, RowAdded, WordAdded, [], ◌%◌, ◌*◌, ◌+◌, ◌/◌, ◌<◌, ◌^◌, ◌∙◌, ◌∷◌, ◌≡◌, ◌≤◌, ◌⊕◌, add-one}
-use Rattle.sliced.proofs.Names.{add-zero, ap, ap₂, arith, bit, bit-and, bit-small, bit-xor, bit_and, carry_at, differ, each8, get_or}
+use Rattle.sliced.proofs.Names.{Added, List, RowAdded, WordAdded, ◌%◌, ◌*◌, ◌+◌, ◌/◌, ◌<◌, ◌^◌, ◌∙◌, ◌≡◌, ◌≤◌, ◌⊕◌, add-one}
+use Rattle.sliced.proofs.Names.{ap, ap₂, arith, bit, bit-and, bit-small, bit-xor, bit_and, carry_at, differ, get_or}
 use Rattle.sliced.proofs.Names.{get_or-set_other, get_or-set_same, lane, length, length-set, min, pack, pack-below, pack_is, pow-suc}
-use Rattle.sliced.proofs.Names.{refl, set, suc, sym, three-bits, word_more, zero, ℕ}
+use Rattle.sliced.proofs.Names.{refl, set, suc, three-bits, word_more, zero, ℕ}
 
 -- three bits, their sum and its carry, in every bit of three words
 word_adder : (k a b m : ℕ) → bit k (a ⊕ b ⊕ m) + 2 * bit k (bit_and a b ⊕ bit_and (a ⊕ b) m) ≡ bit k m + bit k a + bit k b
@@ -22,14 +22,6 @@ word-added p a b m x hp hx =
       sum = λ k. ap (λ (s : ℕ). bit k s + 2 * bit k v) (get_or-set_same x p u 0 (omega arith)) ∙ word_adder k a b m;
       same = λ q h. get_or-set_other x p q u 0 h;
     }
-
--- eight words from p on
-pub eight_words : (x : List ℕ) (p q : ℕ) → q < 8
-    → get_or (get_or x p 0 ∷ get_or x (p + 1) 0 ∷ get_or x (p + 2) 0 ∷ get_or x (p + 3) 0
-    ∷ get_or x (p + 4) 0 ∷ get_or x (p + 5) 0 ∷ get_or x (p + 6) 0 ∷ get_or x (p + 7) 0 ∷ []) q 0
-    ≡ get_or x (p + q) 0
-eight_words x p =
-    each8 _ (ap (λ (z : ℕ). get_or x z 0) (sym (add-zero p))) refl refl refl refl refl refl refl
 
 -- a row of which j words are added
 pub added-first : (m i : ℕ) (a x y : List ℕ) → length x ≡ 256 → length y ≡ 8 → RowAdded m i 0 a x y x y

@@ -7,10 +7,6 @@ use Rattle.sliced.specs.Lanes.{lane}
 abbrev pub number_at : ℕ → ℕ
 number_at e = 64 * (e % 8) + e / 8
 
--- a plane that holds nothing
-abbrev pub Clear : List ℕ → Type 0
-Clear x = (length x ≡ 256) × Blank x
-
 -- the carry of lane e
 unfoldable pub carry_at : List ℕ → ℕ → ℕ
 carry_at y e = bit (e / 8) (get_or y (e % 8) 0)

@@ -5,21 +5,23 @@ ghost use Rattle.std.specs.Prelude.{◌≡◌, ℕ, ◌+◌, ◌*◌, ◌<◌, �
 ghost use Rattle.block.specs.Blocks.{block_at, cat};
 ghost use Rattle.block.specs.Words.{words, unwords};
 ghost use Rattle.block.specs.Xor.{xors};
-ghost use Rattle.lanes.specs.Bits.{bit, Masks};
+ghost use Rattle.lanes.specs.Bits.{Blank};
 ghost use Rattle.cipher.specs.Sm4.{encrypt_block};
 ghost use Rattle.counter.specs.Counter.{jumped};
 ghost use Rattle.block.specs.Over.{over};
-ghost use Rattle.sliced.specs.Lanes.{lane, lanes};
-ghost use Rattle.sliced.specs.Counting.{number_at, Clear, Kept, WordAdded, RowAdded, Added};
+ghost use Rattle.sliced.specs.Lanes.{lane, block_in};
+ghost use Rattle.sliced.specs.Counting.{number_at, Kept, WordAdded, RowAdded, Added};
 
-use crate::{columns_of, rounds_to_rows};
+use crate::{Planes, columns_of, masks};
+use rows::Batch;
+use std::array;
 
 // The number of its block into every lane: a row for each of its nine bits. Block i stands at bit i % 64 of column i / 64, so that the low
 // six bits of its number are the same in every column, and the other three in every row.
 fn numbers(x: &mut [u64; 256])
-    requires { Clear x.old }
-    ensures by_index { (e : ℕ) → e < 512 → lane x.new e ≡ number_at e }
-    ensures x_len { (length x.new ≡ 256) × ((p : ℕ) → 72 ≤ p → get_or x.new p 0 ≡ 0) }
+    requires { Blank x.old }
+    ensures numbered { (e : ℕ) → e < 512 → lane x.new e ≡ number_at e }
+    ensures rest { (p : ℕ) → 72 ≤ p → get_or x.new p 0 ≡ 0 }
 {
     let low: [u64; 6] = [
         0xaaaa_aaaa_aaaa_aaaa,
@@ -29,51 +31,25 @@ fn numbers(x: &mut [u64; 256])
         0xffff_0000_ffff_0000,
         0xffff_ffff_0000_0000,
     ];
-    let mut p: usize = 0;
-    while p < 48 {
+    for p in 0..48 {
         x[p] = low[p / 8];
-        p += 1;
     }
-    while p < 72 {
+    for p in 48..72 {
         x[p] = lanes::spread((p % 8) as u64, p / 8 - 6);
-        p += 1;
-    }
-}
-
-// The masks of all bits of k. They are kept in memory, so that the back end makes no branches of them.
-fn word_masks(k: u32, m: &mut [u64; 32])
-    requires { length m.old ≡ 32 }
-    ensures masks { Masks 32 (λ i. bit i k) m.new }
-    ensures m_len { length m.new ≡ 32 }
-{
-    let mut i: usize = 0;
-    while i < 32 {
-        m[i] = lanes::spread(k as u64, i);
-        i += 1;
     }
 }
 
 // Row i of x.
 fn row(x: &[u64; 256], i: usize) -> [u64; 8]
-    requires { (i < 32) × (length x.now ≡ 256) }
+    requires { i < 32 }
     ensures { (q : ℕ) → q < 8 → get_or result q 0 ≡ get_or x.now (8 * i + q) 0 }
 {
-    let p = 8 * i;
-    [
-        x[p],
-        x[p + 1],
-        x[p + 2],
-        x[p + 3],
-        x[p + 4],
-        x[p + 5],
-        x[p + 6],
-        x[p + 7],
-    ]
+    array::from_fn(|q| x[8 * i + q])
 }
 
 // The bits of a, the carries b and the bit of the mask m, added in every lane: the sums into word p of x, and the carries back.
 fn add_at(x: &mut [u64; 256], p: usize, a: u64, b: u64, m: u64) -> u64
-    requires { (p < 256) × (length x.old ≡ 256) }
+    requires { p < 256 }
     ensures { WordAdded p a b m x.old x.new result }
 {
     let t = a ^ b;
@@ -83,37 +59,27 @@ fn add_at(x: &mut [u64; 256], p: usize, a: u64, b: u64, m: u64) -> u64
 
 // The bits of eight words a, the carries y and the bit of the mask m: the sums into row i of x, the carries into y.
 fn add_row(x: &mut [u64; 256], a: [u64; 8], y: &mut [u64; 8], m: u64, i: usize)
-    requires { (i < 32) × (length x.old ≡ 256) × (length y.old ≡ 8) }
+    requires { i < 32 }
     ensures { RowAdded m i 8 a x.old y.old x.new y.new }
 {
-    let p = 8 * i;
-    y[0] = add_at(x, p, a[0], y[0], m);
-    y[1] = add_at(x, p + 1, a[1], y[1], m);
-    y[2] = add_at(x, p + 2, a[2], y[2], m);
-    y[3] = add_at(x, p + 3, a[3], y[3], m);
-    y[4] = add_at(x, p + 4, a[4], y[4], m);
-    y[5] = add_at(x, p + 5, a[5], y[5], m);
-    y[6] = add_at(x, p + 6, a[6], y[6], m);
-    y[7] = add_at(x, p + 7, a[7], y[7], m);
+    for (q, carry) in y.iter_mut().enumerate() {
+        *carry = add_at(x, 8 * i + q, a[q], *carry, m);
+    }
 }
 
 // The word w, added in every lane to the words of x and the carries y: the sums into x, and the carries back. Only the first n rows of x hold
 // anything, and only they are read.
 fn add_word(x: &mut [u64; 256], n: usize, y: [u64; 8], w: u32) -> [u64; 8]
-    requires { (n ≤ 32) × (length x.old ≡ 256) × ((p : ℕ) → 8 * n ≤ p → get_or x.old p 0 ≡ 0) }
-    ensures { Added w x.old y x.new result × (length x.new ≡ 256) }
+    requires { (n ≤ 32) × ((p : ℕ) → 8 * n ≤ p → get_or x.old p 0 ≡ 0) }
+    ensures { Added w x.old y x.new result }
 {
-    let mut m = [0u64; 32];
-    word_masks(w, &mut m);
+    let m: [u64; 32] = masks(w, 0);
     let mut carries = y;
-    let mut i: usize = 0;
-    while i < n {
+    for i in 0..n {
         add_row(x, row(x, i), &mut carries, m[i], i);
-        i += 1;
     }
-    while i < 32 {
-        add_row(x, [0u64; 8], &mut carries, m[i], i);
-        i += 1;
+    for i in n..32 {
+        add_row(x, [0; 8], &mut carries, m[i], i);
     }
     carries
 }
@@ -122,30 +88,21 @@ fn add_word(x: &mut [u64; 256], n: usize, y: [u64; 8], w: u32) -> [u64; 8]
 fn keep_carries(wide: bool, y: [u64; 8]) -> [u64; 8]
     ensures { Kept wide y result }
 {
-    if wide {
-        return y;
-    }
-    [0u64; 8]
+    if wide { y } else { [0; 8] }
 }
 
-// The counters from c on into the lanes of four planes.
-fn count(
-    wide: bool,
-    c: [u32; 4],
-    x0: &mut [u64; 256],
-    x1: &mut [u64; 256],
-    x2: &mut [u64; 256],
-    x3: &mut [u64; 256],
-)
-    requires { Clear x0.old × Clear x1.old × Clear x2.old × Clear x3.old }
-    ensures by_index { (e : ℕ) → e < 512 → lanes x0.new x1.new x2.new x3.new e ≡ words (jumped wide (unwords c) (number_at e)) }
-    ensures x0_len { (length x0.new ≡ 256) × (length x1.new ≡ 256) × (length x2.new ≡ 256) × (length x3.new ≡ 256) }
-{
-    numbers(x3);
-    let y3 = add_word(x3, 9, [0u64; 8], c[3]);
-    let y2 = add_word(x2, 0, keep_carries(wide, y3), c[2]);
-    let y1 = add_word(x1, 0, y2, c[1]);
-    add_word(x0, 0, y1, c[0]);
+impl Planes {
+    // The counters from c on into the lanes.
+    fn count(&mut self, wide: bool, c: [u32; 4])
+        requires { Blank self.old.x0 × Blank self.old.x1 × Blank self.old.x2 × Blank self.old.x3 }
+        ensures { (e : ℕ) → e < 512 → block_in self.new e ≡ words (jumped wide (unwords c) (number_at e)) }
+    {
+        numbers(&mut self.x3);
+        let y3 = add_word(&mut self.x3, 9, [0; 8], c[3]);
+        let y2 = add_word(&mut self.x2, 0, keep_carries(wide, y3), c[2]);
+        let y1 = add_word(&mut self.x1, 0, y2, c[1]);
+        add_word(&mut self.x0, 0, y1, c[0]);
+    }
 }
 
 // The first m blocks of `with`, xored with the ciphers of as many counters from c on, to the front of `out`. All four words of c count where
@@ -161,14 +118,9 @@ pub fn encrypt_counters(
     requires { (m ≤ 512) × (16 * m ≤ length «with».now) × (16 * m ≤ length out.old) }
     ensures { out.new ≡ over (cat m (λ i. xors (block_at «with».now i) (encrypt_block rk (jumped wide (unwords c) i)))) out.old }
 {
-    let mut x0 = [0u64; 256];
-    let mut x1 = [0u64; 256];
-    let mut x2 = [0u64; 256];
-    let mut x3 = [0u64; 256];
-    let mut a = [0u64; 512];
-    let mut b = [0u64; 512];
-    let n = columns_of(m);
-    count(wide, c, &mut x0, &mut x1, &mut x2, &mut x3);
-    rounds_to_rows(rk, n, &mut x0, &mut x1, &mut x2, &mut x3, &mut a, &mut b);
-    rows::store_xored(&a, &b, m, with, out);
+    let mut planes = Planes::new();
+    let mut rows = Batch::new();
+    planes.count(wide, c);
+    planes.rounds_to_rows(rk, columns_of(m), &mut rows);
+    rows.store_xored(m, with, out);
 }

@@ -10,10 +10,6 @@ use Rattle.stream.proofs.Walks.{blocks_on}
 use Rattle.stream.proofs.RoundTrip.{stream-block}
 pub use Rattle.stream.proofs.Counters.{length-jumped}
 
--- what is false is not true
-pub untrue : {A : Type 0} → false ≡ true → A
-untrue e = let z : ◌≡◌ {A = ℕ} 0 1 = cc in absurd (omega arith)
-
 pub cfb_fed : (rk : List ℕ) → FedBack (stream_mode CfbDecrypt rk)
 cfb_fed rk = record { state = λ s b. refl; full = λ s b hs hb. stream-block CfbDecrypt rk s b hb }
 
@@ -73,10 +69,6 @@ module _ (k : Kind) (rk s d : List ℕ) (m : ℕ) (h : 16 * m ≤ length d) wher
 empty : (d : List ℕ) → length d ≡ 0 → d ≡ []
 empty [] h = refl
 empty (x ∷ d) h = absurd (omega arith)
-
--- where nothing is left, it does not matter with what it is xored
-pub nothing_written : (d p o : List ℕ) → length d ≡ 0 → o ≡ over (xors d p) o
-nothing_written d p o h = rw (empty d h)
 
 -- a rest, with a pad if there is one
 pub rest-xored : (b : Bool) (d p q : List ℕ) → (b ≡ true → p ≡ q) → (b ≡ false → length d ≡ 0) → xors d p ≡ xors d q

@@ -1,7 +1,7 @@
 -- The names from outside this crate's proofs that they use, each with the module that has it.
 pub use Rattle.block.proofs.Base.{Bool, Fits, List, [], ◌%◌, ◌*◌, ◌++◌, ◌+◌, ◌-◌, ◌/◌, ◌<◌, ◌^◌, ◌∙◌, ◌∷◌, ◌≡◌, ◌≤◌, ◌⊎◌, ap, append_assoc}
 pub use Rattle.block.proofs.Base.{arith, drop, false, get_or, inl, inr, length, length-append, length-drop, length-take-le, rules}
-pub use Rattle.block.proofs.Base.{refl, sub-zero, suc, sym, take, true, w32, zero, ℕ}
+pub use Rattle.block.proofs.Base.{refl, suc, sym, take, true, w32, zero, ℕ}
 pub use Rattle.block.proofs.Cat.{cat-next, cat-same, length-block_at}
 pub use Rattle.block.proofs.Convert.{bytes_of-bytes, length-bytes_of}
 pub use Rattle.block.proofs.Entries.{below-append, below-drop, below_each, below-take}
@@ -28,8 +28,9 @@ unfoldable pub use Rattle.counter.specs.Counter.{ctr_jump, ctr_next, gcm_jump, g
 pub use Rattle.sixteen.proofs.Blocks.{block-stored}
 pub use Rattle.sixteen.proofs.Onward.{reached-end, reached-over, states_before}
 pub use Rattle.sixteen.proofs.Padded.{block_of, over-stored, xored-blocks}
-pub use Rattle.walk.proofs.Batch.{Fed, FedBack, fed_first, fed_on, fed_reached, gives, reached-first, reached-next, reached_on}
-pub use Rattle.walk.proofs.Chain.{Any, Keeps, chain_length}
+pub use Rattle.walk.proofs.Batch.{Fed, FedBack, fed_on, fed_reached, gives, reached-first, reached-next, reached_on}
+pub use Rattle.walk.proofs.Chain.{Any, Keeps, chain_length, chain-rest}
+pub use Rattle.walk.proofs.Cut.{end_rest}
 pub use Rattle.walk.proofs.Loop.{last-state, rest-written}
 pub use Rattle.walk.proofs.Undo.{Undoes, undo}
 pub use Rattle.walk.specs.Reached.{Reached}
@@ -37,6 +38,6 @@ pub use Rattle.walk.specs.Walk.{Mode, chain, end_state}
 unfoldable pub use Rattle.walk.specs.Walk.{stepped}
 pub use Rattle.stream.specs.Passes.{gcm_blocks_say}
 unfoldable pub use Rattle.stream.specs.Passes.{ctr_walk_says, gcm_walk_says, walk_passes}
-pub use Rattle.stream.specs.Stream.{ahead, counting, opener, state_after, stream_mode}
+pub use Rattle.stream.specs.Stream.{counting, kind_of, opener, state_after, stream_mode}
 pub use Rattle.stream.specs.declared.Kind.{Kind}
 pub use Rattle.stream.specs.declared.Kind.TheVariants.{CfbDecrypt, CfbEncrypt, Ctr, Gctr, Ofb}

@@ -1,14 +1,22 @@
 -- The walk of a kind goes on from where it had come to: by blocks, by a walk over what is left, or by a rest that is no full block.
-use Rattle.stream.proofs.Names.{Bool, Kind, List, Reached, ◌*◌, ◌+◌, ◌<◌, ◌∙◌, ◌≡◌, ◌≤◌, ap, arith, block_at, cat, chain, drop}
-use Rattle.stream.proofs.Names.{encrypt_block, end_state, gives, last-state, length, length-block_at, length-drop, over, reached-end}
-use Rattle.stream.proofs.Names.{reached_on, reached-over, rest-written, returned, stepped, stream_mode, tailed, true, xors, ℕ}
+use Rattle.stream.proofs.Names.{Bool, Kind, List, Reached, ◌*◌, ◌+◌, ◌<◌, ◌∙◌, ◌≡◌, ◌≤◌, ap, arith, block_at, cat, chain-rest, drop}
+use Rattle.stream.proofs.Names.{encrypt_block, end_rest, gives, last-state, length, length-block_at, length-drop, over}
+use Rattle.stream.proofs.Names.{reached-end, reached_on, reached-over, rest-written, returned, stepped, stream_mode, sym, tailed, true}
+use Rattle.stream.proofs.Names.{xors, ℕ}
+use Rattle.stream.specs.Ends.{Ends}
 use Rattle.stream.proofs.RoundTrip.{stream-block}
 
--- a walk has ended in the state r with the output t, and, where the message goes on, with the cipher q of that state
-abbrev pub Ends : Kind → List ℕ → Bool → List ℕ → List ℕ → List ℕ → List ℕ → List ℕ → List ℕ → Type 0
-Ends k rk on s d o r q t =
-    (r ≡ end_state (stream_mode k rk) s d)
-    × ((on ≡ true → q ≡ encrypt_block rk (end_state (stream_mode k rk) s d)) × (t ≡ over (chain (stream_mode k rk) s d) o))
+-- a message that is no full block was xored with the cipher of the state
+pub short : (k : Kind) (rk : List ℕ) (on : Bool) (s d o q t : List ℕ) → length d < 16 → (on ≡ true → q ≡ encrypt_block rk s)
+    → t ≡ over (xors d (encrypt_block rk s)) o → Ends k rk on s d o s q t
+short k rk on s d o q t h e f =
+    let m = stream_mode k rk in
+    let last = sym (end_rest m s d h) in
+    record {
+      state_value = last;
+      pad_value = λ g. e g ∙ ap (encrypt_block rk) last;
+      out_after = f ∙ ap (λ (x : List ℕ). over x o) (sym (chain-rest m s d h));
+    }
 
 module _ (k : Kind) (rk : List ℕ) {s d o r p : List ℕ} {at : ℕ} (R : Reached (stream_mode k rk) s d o r p at) where
   -- n blocks more were written
@@ -27,7 +35,11 @@ module _ (k : Kind) (rk : List ℕ) {s d o r p : List ℕ} {at : ℕ} (R : Reach
   onward on r' q t e =
       let m = stream_mode k rk in
       let last = reached-end m s d o r p at R in
-      (e.0 ∙ last, (λ h. e.1.0 h ∙ ap (encrypt_block rk) last, reached-over m s d o r p at R t e.1.1))
+      record {
+        state_value = e.state_value ∙ last;
+        pad_value = λ h. e.pad_value h ∙ ap (encrypt_block rk) last;
+        out_after = reached-over m s d o r p at R t e.out_after;
+      }
 
   -- what is left is no full block, and was xored with the cipher of the state
   pub ended : (on : Bool) (q t : List ℕ) → length d < at + 16 → (on ≡ true → q ≡ encrypt_block rk r)
@@ -35,4 +47,8 @@ module _ (k : Kind) (rk : List ℕ) {s d o r p : List ℕ} {at : ℕ} (R : Reach
   ended on q t h e f =
       let m = stream_mode k rk in
       let last = last-state m r d at h ∙ R.ends in
-      (last, (λ g. e g ∙ ap (encrypt_block rk) last, rest-written m r d p t at h f ∙ R.leaves))
+      record {
+        state_value = last;
+        pad_value = λ g. e g ∙ ap (encrypt_block rk) last;
+        out_after = rest-written m r d p t at h f ∙ R.leaves;
+      }

@@ -1,2 +1,3 @@
 pub mod Stream
+pub mod Ends
 pub mod Passes

@@ -6,6 +6,8 @@ use Rattle.block.specs.Xor.{xors}
 use Rattle.cipher.specs.Sm4.{encrypt_block}
 use Rattle.counter.specs.Counter.{ctr_next, gcm_next}
 use Rattle.walk.specs.Walk.{Mode}
+use Rattle.stream.specs.declared.KnownAhead.{KnownAhead}
+use Rattle.stream.specs.declared.KnownAhead.TheVariants.{Counter, Feedback}
 use Rattle.stream.specs.declared.Kind.{Kind}
 use Rattle.stream.specs.declared.Kind.TheVariants.{CfbEncrypt, CfbDecrypt, Ofb, Ctr, Gctr}
 
@@ -33,15 +35,12 @@ opener Ofb = Ofb
 opener Ctr = Ctr
 opener Gctr = Gctr
 
--- whether the states of a kind are known before a block is ciphered
-abbrev pub ahead : Kind → Bool
-ahead CfbEncrypt = false
-ahead CfbDecrypt = true
-ahead Ofb = false
-ahead Ctr = true
-ahead Gctr = true
-
 -- the kinds whose states are counters: of all sixteen bytes, or of the last four
 abbrev pub counting : Bool → Kind
 counting true = Ctr
 counting false = Gctr
+
+-- the kinds whose states are known before a block is ciphered
+abbrev pub kind_of : KnownAhead → Kind
+kind_of Feedback = CfbDecrypt
+kind_of (Counter wide) = counting wide

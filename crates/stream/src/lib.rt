@@ -6,17 +6,20 @@
 mod batches;
 pub mod few;
 
-ghost use Rattle.std.specs.Prelude.{◌≡◌, true, false, ◌++◌, ◌<◌, ◌≤◌, length, take, drop};
+ghost use Rattle.std.specs.Prelude.{◌≡◌, true, false, ◌++◌, ◌<◌, ◌≤◌, length, take, drop, IfSome};
 ghost use Rattle.block.specs.Words.{unwords};
 ghost use Rattle.block.specs.Xor.{xors};
-ghost use Rattle.cipher.specs.Engine.{Engine};
 ghost use Rattle.cipher.specs.Sm4.{encrypt_block};
 ghost use Rattle.block.specs.Over.{over};
 ghost use Rattle.walk.specs.Walk.{chain, end_state};
-ghost use Rattle.stream.specs.Stream.{state_after, stream_mode, ahead};
+ghost use Rattle.stream.specs.Ends.{Ends};
+ghost use Rattle.stream.specs.Stream.{state_after, stream_mode, kind_of};
+
+use batches::Place;
+use cipher::Engine;
 
 // The mode and, where they differ, the direction.
-#[derive(Clone, Copy)]
+#[derive(Clone, Copy, PartialEq, Eq, Debug)]
 pub enum Kind {
     CfbEncrypt,
     CfbDecrypt,
@@ -25,7 +28,30 @@ pub enum Kind {
     Gctr,
 }
 
-// The state after the block `b`: `s` is the state before it, `e` the cipher of `s`, and `c` what the block became.
+// The kinds whose states are known before a block is ciphered: those of Cfb decryption are the blocks before, the others counters, Ctr's
+// wide ones.
+#[derive(Clone, Copy, PartialEq, Eq, Debug)]
+pub(crate) enum KnownAhead {
+    Feedback,
+    Counter { wide: bool },
+}
+
+impl KnownAhead {
+    // What a kind is, if its states are known ahead.
+    fn of(kind: Kind) -> Option<KnownAhead>
+        ensures { IfSome result (λ known. kind_of known ≡ kind) }
+    {
+        match kind {
+            Kind::CfbEncrypt | Kind::Ofb => None,
+            Kind::CfbDecrypt => Some(KnownAhead::Feedback),
+            Kind::Ctr => Some(KnownAhead::Counter { wide: true }),
+            Kind::Gctr => Some(KnownAhead::Counter { wide: false }),
+        }
+    }
+}
+
+// The state after the block `b`: `s` is the state before it, `e` the cipher of `s`, and `c` what the block became. (A switch, and no type
+// for each kind: the kind is told at run time, since a host chooses the mode.)
 fn state_after(kind: Kind, s: [u32; 4], e: [u32; 4], b: [u32; 4], c: [u32; 4]) -> [u32; 4]
     ensures { unwords result ≡ state_after kind (unwords s) (unwords e) (unwords b) (unwords c) }
 {
@@ -40,20 +66,19 @@ fn state_after(kind: Kind, s: [u32; 4], e: [u32; 4], b: [u32; 4], c: [u32; 4]) -
 
 // The block at the front of `data`, to the front of `out`. Returns the next state.
 pub(crate) fn step(
-    t: &[u32],
+    engine: Engine,
     rk: [u32; 32],
     kind: Kind,
     s: [u32; 4],
     data: &[u8],
     out: &mut [u8],
 ) -> [u32; 4]
-    requires engine { Engine t.now }
     requires in_bounds { 16 ≤ length «data».now }
     requires in_bounds_2 { 16 ≤ length out.old }
     ensures result_value { unwords result ≡ (stream_mode kind rk).next (unwords s) (take 16 «data».now) }
     ensures out_after { out.new ≡ (stream_mode kind rk).block (unwords s) (take 16 «data».now) ++ drop 16 out.old }
 {
-    let e = cipher::encrypt(t, rk, s);
+    let e = cipher::encrypt(engine, rk, s);
     let b = block::split_block(data);
     let c = block::block_xor(b, e);
     block::put_block(c, out);
@@ -64,25 +89,19 @@ pub(crate) fn step(
 pub(crate) fn pad_needed(on: bool, rest: usize) -> bool
     ensures { (on ≡ true → result ≡ true) × (result ≡ false → rest ≡ 0) }
 {
-    if on {
-        return true;
-    }
-    if rest > 0 {
-        return true;
-    }
-    false
+    on || rest > 0
 }
 
-// A rest shorter than a block, to the front of `out`: xored with the front of the cipher's output, which is returned where the message goes on.
+// A rest shorter than a block, to the front of `out`: xored with the front of the cipher's output, which is returned where the message goes
+// on.
 fn xor_rest(
-    t: &[u32],
+    engine: Engine,
     rk: [u32; 32],
     s: [u32; 4],
     on: bool,
     data: &[u8],
     out: &mut [u8],
 ) -> [u8; 16]
-    requires engine { Engine t.now }
     requires data_len_bound { length «data».now < 16 }
     requires data_in_bounds { length «data».now ≤ length out.old }
     ensures value { on ≡ true → result ≡ encrypt_block rk (unwords s) }
@@ -91,22 +110,24 @@ fn xor_rest(
     if !pad_needed(on, data.len()) {
         return [0u8; 16];
     }
-    let pad = block::combine_block(cipher::encrypt(t, rk, s));
+    let pad = block::combine_block(cipher::encrypt(engine, rk, s));
     sixteen::xor_bytes(&pad, data, out);
     pad
 }
 
 // Where a walk ends: the state after the full blocks, and, where the message goes on, the cipher of it, with which a rest was xored. A
-// message that goes on takes both from here, so that no block is ciphered twice.
+// message that goes on takes both from here, so that no block is ciphered twice. (The caller says whether it goes on, and takes the pad
+// only then; an Option would make it ask again. No `==` and no `Debug`: the pad is secret.)
 #[derive(Clone, Copy)]
 pub struct End {
     pub state: [u32; 4],
     pub pad: [u8; 16],
 }
 
-// A message, one block after the other.
+// A message, one block after the other. (The tail of the data is handed to the next step: one of the nine forms, docs/DECISIONS.md. Cbc has
+// such a loop over its trait `Way`; one for both would need a type for each kind here, and the kind is told at run time.)
 fn one_by_one(
-    t: &[u32],
+    engine: Engine,
     rk: [u32; 32],
     kind: Kind,
     iv: [u32; 4],
@@ -114,67 +135,63 @@ fn one_by_one(
     data: &[u8],
     out: &mut [u8],
 ) -> End
-    requires engine { Engine t.now }
-    requires data_in_bounds { length «data».now ≤ length out.old }
-    ensures state_value { unwords result.state ≡ end_state (stream_mode kind rk) (unwords iv) «data».now }
-    ensures pad_value { on ≡ true → result.pad ≡ encrypt_block rk (end_state (stream_mode kind rk) (unwords iv) «data».now) }
-    ensures out_after { out.new ≡ over (chain (stream_mode kind rk) (unwords iv) «data».now) out.old }
+    requires { length «data».now ≤ length out.old }
+    ensures { Ends kind rk on (unwords iv) «data».now out.old (unwords result.state) result.pad out.new }
 {
+    let full = data.len() / 16;
     let mut s = iv;
-    let mut at: usize = 0;
-    while 16 <= data.len() - at {
-        let next = step(t, rk, kind, s, &data[at..], &mut out[at..]);
+    for i in 0..full {
+        let at = 16 * i;
+        // by a local of its own: the check takes no call's result right into an array that is handed on whole at the end
+        let next = step(engine, rk, kind, s, &data[at..], &mut out[at..]);
         s = next;
-        at += 16;
     }
-    let pad = xor_rest(t, rk, s, on, &data[at..], &mut out[at..]);
+    let at = 16 * full;
+    let pad = xor_rest(engine, rk, s, on, &data[at..], &mut out[at..]);
     End { state: s, pad }
 }
 
-// Whether a message of `n` bytes goes side by side: where the gates are lent, if it has a full block, and its states are known ahead.
-fn side_by_side(t: &[u32], kind: Kind, n: usize) -> bool
-    ensures { result ≡ true → ahead kind ≡ true }
-{
-    if !cipher::by_gates(t) {
-        return false;
-    }
-    if n < 16 {
-        return false;
-    }
-    match kind {
-        Kind::CfbEncrypt => false,
-        Kind::CfbDecrypt => true,
-        Kind::Ofb => false,
-        Kind::Ctr => true,
-        Kind::Gctr => true,
-    }
-}
-
-// What the batches left of a message.
+// What the batches left of a message whose states are known ahead: side by side, if it has a full block.
 fn finish(
-    t: &[u32],
     rk: [u32; 32],
-    kind: Kind,
+    kind: KnownAhead,
     iv: [u32; 4],
     on: bool,
     data: &[u8],
     out: &mut [u8],
 ) -> End
-    requires engine { Engine t.now }
-    requires data_in_bounds { length «data».now ≤ length out.old }
-    ensures state_value { unwords result.state ≡ end_state (stream_mode kind rk) (unwords iv) «data».now }
-    ensures pad_value { on ≡ true → result.pad ≡ encrypt_block rk (end_state (stream_mode kind rk) (unwords iv) «data».now) }
-    ensures out_after { out.new ≡ over (chain (stream_mode kind rk) (unwords iv) «data».now) out.old }
+    requires { length «data».now ≤ length out.old }
+    ensures { Ends (kind_of kind) rk on (unwords iv) «data».now out.old (unwords result.state) result.pad out.new }
 {
-    if side_by_side(t, kind, data.len()) {
-        return few::run(rk, kind, iv, on, data, out);
+    if data.len() < 16 {
+        let pad = xor_rest(Engine::Gates, rk, iv, on, data, out);
+        End { state: iv, pad }
+    } else {
+        few::run(rk, kind, iv, on, data, out)
     }
-    one_by_one(t, rk, kind, iv, on, data, out)
+}
+
+// A message whose states are known ahead, by the gates.
+fn by_gates(
+    rk: [u32; 32],
+    kind: KnownAhead,
+    iv: [u32; 4],
+    on: bool,
+    data: &[u8],
+    out: &mut [u8],
+) -> End
+    requires { length «data».now ≤ length out.old }
+    ensures { Ends (kind_of kind) rk on (unwords iv) «data».now out.old (unwords result.state) result.pad out.new }
+{
+    let Place { state, at } = batches::run(rk, kind, iv, data, out);
+    finish(rk, kind, state, on, &data[at..], &mut out[at..])
 }
 
 // The whole message `data`, to the front of `out`. Returns where the walk ends, with the cipher of the state there if the message goes on.
+// (Engine and round keys come apart, here and in what this calls: the keys by value are one of the nine forms, docs/DECISIONS.md. That the
+// output has room for the data stays a clause: a struct of the two slices would be made here to be taken apart in each step.)
 pub fn stream(
-    t: &[u32],
+    engine: Engine,
     rk: [u32; 32],
     kind: Kind,
     iv: [u32; 4],
@@ -182,14 +199,13 @@ pub fn stream(
     data: &[u8],
     out: &mut [u8],
 ) -> End
-    requires engine { Engine t.now }
-    requires data_in_bounds { length «data».now ≤ length out.old }
+    requires { length «data».now ≤ length out.old }
     ensures state_value { unwords result.state ≡ end_state (stream_mode kind rk) (unwords iv) «data».now }
     ensures pad_value { on ≡ true → result.pad ≡ encrypt_block rk (end_state (stream_mode kind rk) (unwords iv) «data».now) }
     ensures out_after { out.new ≡ over (chain (stream_mode kind rk) (unwords iv) «data».now) out.old }
 {
-    let begun = batches::run(t, rk, kind, iv, data, out);
-    let at = begun.at;
-    let s = begun.state;
-    finish(t, rk, kind, s, on, &data[at..], &mut out[at..])
+    match KnownAhead::of(kind) {
+        Some(known) if engine == Engine::Gates => by_gates(rk, known, iv, on, data, out),
+        _ => one_by_one(engine, rk, kind, iv, on, data, out),
+    }
 }

@@ -3,88 +3,46 @@
 
 #![tactic(auto)]
 
-mod fields;
+mod file;
 mod independent;
 mod ours;
 
-ghost use Rattle.std.specs.Prelude.{◌<◌, IfOk};
-
+use file::Vector;
+use independent::Sm4;
 use std::{env, fs, io};
-
-// The kind of a vector.
-fn kind_of(field: &[u8]) -> u32 {
-    if field.len() == 1 {
-        return wide(field[0]);
-    }
-    8
-}
-
-fn wide(x: u8) -> u32 {
-    x as u32
-}
-
-// Whether ours and the independent one both give the result of the vector at a place.
-fn agree(t: &[u32; 512], bytes: &[u8], at: usize) -> bool {
-    let kind = kind_of(fields::field(bytes, at, 0));
-    let key = fields::field(bytes, at, 1);
-    let iv = fields::field(bytes, at, 2);
-    let label = fields::field(bytes, at, 3);
-    let text = fields::field(bytes, at, 4);
-    let result = fields::field(bytes, at, 5);
-    ours::gives(kind, key, iv, label, text, result)
-        && independent::gives(t, kind, key, iv, label, text, result)
-}
-
-// Writes how one vector went, and counts it where it differs.
-fn told(rt: &HostRuntime, number: u64, same: bool) -> io::Result<u64>
-    ensures { IfOk result (λ n. n < 2) }
-{
-    if same {
-        println!(rt; "vector {number} same")?;
-        return Ok(0);
-    }
-    println!(rt; "vector {number} differ")?;
-    Ok(1)
-}
-
-// Writes how all of them went.
-fn summary(rt: &HostRuntime, all: u64, differ: u64) -> io::Result<()> {
-    println!(rt; "{all} compared {differ} differ")
-}
-
-// Runs every vector of the file.
-fn run_all(rt: &HostRuntime, bytes: &[u8]) -> io::Result<()> {
-    let t = independent::tables();
-    let mut at: usize = 0;
-    let mut all: u64 = 0;
-    let mut differ: u64 = 0;
-    while all < 1000 {
-        if bytes.len() <= at {
-            return summary(rt, all, differ);
-        }
-        all += 1;
-        differ += told(rt, all, agree(&t, bytes, at))?;
-        at = fields::after(bytes, at, 6);
-    }
-    Ok(())
-}
-
-// Reads the file's hex and runs its vectors.
-fn read(rt: &HostRuntime, file: &mut [u8]) -> io::Result<()> {
-    let n = fields::spelled(file);
-    run_all(rt, &file[0..n])
-}
 
 // No more of the file is looked at.
 const MOST: usize = 65_536;
 
+// No more vectors are run; where a file has as many, they are not counted.
+const MOST_VECTORS: u64 = 1000;
+
+// Runs every vector of the file, and writes how each went, and all of them.
+fn run_all(rt: &HostRuntime, bytes: &[u8]) -> io::Result<()> {
+    let sm4 = Sm4::new();
+    let mut rest = bytes;
+    let mut differ: u64 = 0;
+    for before in 0..MOST_VECTORS {
+        let Some((vector, behind)) = Vector::read(rest) else {
+            return println!(rt; "{before} compared {differ} differ");
+        };
+        rest = behind;
+        let number = before + 1;
+        if ours::gives(&vector) && sm4.gives(&vector) {
+            println!(rt; "vector {number} same")?;
+        } else {
+            println!(rt; "vector {number} differ")?;
+            differ += 1;
+        }
+    }
+    Ok(())
+}
+
 fn main(rt: HostRuntime) -> io::Result<()> {
     let alloc = rt.alloc();
-    let path = match env::args(&rt)?.nth(1) {
-        Some(path) => path,
-        None => String::new(alloc),
-    };
-    let mut file = fs::read(&rt, path.as_str())?;
-    let n = file.len().min(MOST);
-    read(&rt, &mut file.as_mut_slice()[..n])
+    let path = env::args(&rt)?.nth(1).unwrap_or(String::new(alloc));
+    let file = fs::read(&rt, path.as_str())?;
+    let looked_at = file.len().min(MOST);
+    let bytes = file::spelled(alloc, &file.as_slice()[..looked_at])?;
+    run_all(&rt, bytes.as_slice())
 }

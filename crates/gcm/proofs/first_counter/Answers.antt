@@ -6,6 +6,6 @@ pub returns-then-iv-eq12 : goal.returns-then-iv-eq12
 unfolding first_counter
 returns-then-iv-eq12 c = rw (eq-eqb _ _ c.if-iv-eq12.true) c.nonce_counter.ensures
 
-pub returns : goal.returns
+pub returns-else-iv-eq12 : goal.returns-else-iv-eq12
 unfolding first_counter
-returns c = rw (ne_eqb _ _ c.if-iv-eq12.false) c.hashed_counter.ensures
+returns-else-iv-eq12 c = rw (ne_eqb _ _ c.if-iv-eq12.false) c.hashed_counter.ensures

@@ -1,5 +1,5 @@
 -- `gcm::start` meets its contract: H by itself or from the pads (`hash-key-front`), J0 by the length of the IV.
-use Rattle.gcm.proofs.Names.{Fits, ◌∙◌, ap, below_each, eq-eqb, first_counter, get_or, hashed_counter, ne_eqb, rules, w8, ℕ}
+use Rattle.gcm.proofs.Names.{Fits, below_each, eq-eqb, first_counter, get_or, rules, w8, ℕ}
 use Rattle.gcm.proofs.Short.{hash-key-front}
 use Rattle.gcm.proofs.start.Goals as goal
 
@@ -14,9 +14,3 @@ returns-then-iv-eq12-clause-h_value c =
 pub returns-then-iv-eq12-clause-j0_value : goal.returns-then-iv-eq12-clause-j0_value
 unfolding first_counter
 returns-then-iv-eq12-clause-j0_value c = rw (eq-eqb _ _ c.if-iv-eq12.true) c.nonce_counter-j0.ensures
-
-pub returns-clause-j0_value : goal.returns-clause-j0_value
-unfolding first_counter
-returns-clause-j0_value c =
-    rw (ne_eqb _ _ c.if-iv-eq12.false)
-    (c.hashed_counter-j0.ensures ∙ ap (λ (h : ℕ). hashed_counter h c.args.iv.now) c.hash_key-h-2.ensures)

@@ -3,7 +3,7 @@ use Rattle.cipher_mode.proofs.Passed.{data-within, with_tag_passed}
 use Rattle.cipher_mode.proofs.checks.room_of.Goals as goal
 
 pub encrypted_length-requires : goal.encrypted_length-requires
-encrypted_length-requires c = rw c.in-Encrypt.is at (data-within _ _ _ c.requires)
+encrypted_length-requires c = rw c.in-Encrypt-default.is-0 at (data-within _ _ _ c.requires)
 
 pub overflow_sub-result : goal.overflow_sub-result
-overflow_sub-result c = with_tag_passed _ (rw (c.in-Decrypt.is, c.in-Gcm.is) at c.requires)
+overflow_sub-result c = with_tag_passed _ (rw (c.in-Decrypt-Gcm.is-0, c.in-Decrypt-Gcm.is-1) at c.requires)

@@ -4,4 +4,4 @@ use Rattle.cipher_mode.proofs.work.block.Goals as goal
 
 pub returns : goal.returns
 returns c =
-    rw (c.encrypt_by.ensures, c.keys_for-keys.ensures, c.split_block.ensures, block_by) at c.put_block.ensures
+    rw (c.encrypt.ensures, c.keys_for-keys.ensures, c.split_block.ensures, block_by) at c.put_block.ensures

@@ -1,36 +1,41 @@
 -- What a turn leaves, and what the walk leaves at its end.
-use Rattle.shelf.proofs.Names.{◌∙◌, arith, below_each, rules, sym}
+use Rattle.shelf.proofs.Names.{◌+◌, ◌-◌, ◌∙◌, ◌≡◌, arith, below_each, refl, rules, sym}
 use Rattle.shelf.proofs.ReadsProper.{on}
 use Rattle.shelf.proofs.Keeping.{all_kept, stay_turn, gone_turn}
 use Rattle.shelf.proofs.change.keep.Goals as goal
-use Rattle.shelf.proofs.change.keep.Goals.{then-stays, else-stays}
 
-pub returns-then-n-eq0 : goal.returns-then-n-eq0
-returns-then-n-eq0 c =
-    let kept = all_kept c.requires c.loop-h.invariant c.front-h.ensures c.if-n-eq0.true in
-    record { value = kept.0; shelf_after = kept.1 }
+pub overflow_add-end : goal.overflow_add-end
+overflow_add-end c = let turn = on c.loop-head.shelf c.args.used _ c.in-Some.ensures in omega arith
 
-pub move_down-requires-clause-n_in_bounds : goal.move_down-requires-clause-n_in_bounds
-move_down-requires-clause-n_in_bounds c =
-    let turn = on c.loop-h.shelf c.args.used _ _ c.front-h.ensures c.if-n-eq0.false in omega arith
+pub copy_within-requires-clause-in_bounds : goal.copy_within-requires-clause-in_bounds
+copy_within-requires-clause-in_bounds c = let turn = on c.loop-head.shelf c.args.used _ c.in-Some.ensures in omega arith
+
+pub copy_within-requires-clause-dest_in_bounds : goal.copy_within-requires-clause-dest_in_bounds
+copy_within-requires-clause-dest_in_bounds c = let turn = on c.loop-head.shelf c.args.used _ c.in-Some.ensures in omega arith
 
 pub overflow_add-to : goal.overflow_add-to
-overflow_add-to c = let turn = on c.loop-h.shelf c.args.used _ _ c.front-h.ensures c.if-n-eq0.false in omega arith
+overflow_add-to c = let turn = on c.loop-head.shelf c.args.used _ c.in-Some.ensures in omega arith
 
-pub overflow_add-at : goal.overflow_add-at
-overflow_add-at c = let turn = on c.loop-h.shelf c.args.used _ _ c.front-h.ensures c.if-n-eq0.false in omega arith
+pub loop-head-smaller-then-stays : goal.loop-head-smaller-then-stays
+loop-head-smaller-then-stays c = let turn = on c.loop-head.shelf c.args.used _ c.in-Some.ensures in omega arith
 
-pub loop-h-smaller : goal.loop-h-smaller
-loop-h-smaller c = let turn = on c.loop-h.shelf c.args.used _ _ c.front-h.ensures c.if-n-eq0.false in omega arith
-
-pub loop-h-preserved : goal.loop-h-preserved
-loop-h-preserved c =
-    let turn = on c.loop-h.shelf c.args.used _ _ c.front-h.ensures c.if-n-eq0.false in
+pub loop-head-preserved-then-stays : goal.loop-head-preserved-then-stays
+loop-head-preserved-then-stays c =
+    let turn = on c.loop-head.shelf c.args.used _ c.in-Some.ensures in
     let small = below_each 256 (c.args.shelf.now) (λ k. search rules) in
-    elim c.if-stays.branch [
-      | then-stays w ↦
-          stay_turn c.requires c.loop-h.invariant turn small (sym c.stays.ensures ∙ w.if-stays.true)
-          (w.shelf-is ∙ w.move_down.ensures) w.to-is
-      | else-stays w ↦
-          gone_turn c.requires c.loop-h.invariant turn (sym c.stays.ensures ∙ w.if-stays.false) w.shelf-is w.to-is
-    ]
+    let n : c.loop-head.at + c.in-Some.head.size - c.loop-head.at ≡ c.in-Some.head.size = omega arith in
+    stay_turn c.requires c.loop-head.invariant turn small (sym c.stays.ensures ∙ c.if-stays.true)
+    (c.copy_within.ensures.after ∙ rw n) refl
+
+pub loop-head-smaller : goal.loop-head-smaller
+loop-head-smaller c = let turn = on c.loop-head.shelf c.args.used _ c.in-Some.ensures in omega arith
+
+pub loop-head-preserved : goal.loop-head-preserved
+loop-head-preserved c =
+    let turn = on c.loop-head.shelf c.args.used _ c.in-Some.ensures in
+    gone_turn c.requires c.loop-head.invariant turn (sym c.stays.ensures ∙ c.if-stays.false) refl refl
+
+pub returns : goal.returns
+returns c =
+    let kept = all_kept c.requires c.loop-head.invariant c.in_default.ensures in
+    record { value = kept.0; shelf_after = kept.1 }

@@ -3,8 +3,8 @@ use Rattle.shelf.proofs.Names.{◌-◌}
 use Rattle.shelf.proofs.Keeping.{Collecting}
 use Rattle.shelf.proofs.change.keep.Given as goal
 
-abbrev pub invariant-loop-h : goal.invariant-loop-h
-invariant-loop-h l = Collecting l.coming l.job l.fn.shelf l.used l.shelf l.to l.at
+abbrev pub invariant-loop-head : goal.invariant-loop-head
+invariant-loop-head l = Collecting l.coming l.fn.shelf l.used l.shelf l.to l.at
 
-abbrev pub decreases-loop-h : goal.decreases-loop-h
-decreases-loop-h l = l.used - l.at
+abbrev pub decreases-loop-head : goal.decreases-loop-head
+decreases-loop-head l = l.used - l.at

@@ -12,23 +12,23 @@ returns-then-short c =
 pub overflow_add-shelf : goal.overflow_add-shelf
 overflow_add-shelf c =
     let small = below_each 256 (c.args.shelf.now) (λ k. search rules) in
-    omega (arith, (marked-over _ _ small c.requires c.survey-found.ensures c.if-found-gt0.true).0)
+    omega (arith, (marked-over _ _ small c.requires c.args.job c.in-Some.ensures).0)
 
-pub bounds-shelf-found : goal.bounds-shelf-found
-bounds-shelf-found c =
+pub bounds-shelf-old : goal.bounds-shelf-old
+bounds-shelf-old c =
     let small = below_each 256 (c.args.shelf.now) (λ k. search rules) in
-    omega (arith, (marked-over _ _ small c.requires c.survey-found.ensures c.if-found-gt0.true).0, c.requires.within)
+    omega (arith, (marked-over _ _ small c.requires c.args.job c.in-Some.ensures).0, c.requires.within)
 
-pub returns-then-found-gt0 : goal.returns-then-found-gt0
-returns-then-found-gt0 c =
+pub returns-in-Some : goal.returns-in-Some
+returns-in-Some c =
     let small = below_each 256 (c.args.shelf.now) (λ k. search rules) in
-    let marked = marked-over _ _ small c.requires c.survey-found.ensures c.if-found-gt0.true in
+    let marked = marked-over _ _ small c.requires c.args.job c.in-Some.ensures in
     let made = made_long _ _ c.requires c.args.n c.args.job (sym c.short.ensures ∙ c.if-short.false) marked.1 in
     record { value = made.0; shelf_after = made.1 }
 
-pub returns-else-found-gt0 : goal.returns-else-found-gt0
-returns-else-found-gt0 c =
+pub returns-in_default : goal.returns-in_default
+returns-in_default c =
     let small = below_each 256 (c.args.shelf.now) (λ k. search rules) in
-    let same = unmarked-over _ _ small c.requires c.survey-found.ensures c.if-found-gt0.false in
+    let same = unmarked-over _ _ small c.requires c.args.job c.in_default.ensures in
     let made = made_long _ _ c.requires c.args.n c.args.job (sym c.short.ensures ∙ c.if-short.false) same in
     record { value = made.0; shelf_after = made.1 }

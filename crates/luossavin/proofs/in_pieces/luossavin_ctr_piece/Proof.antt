@@ -1,9 +1,0 @@
--- `luossavin::in_pieces::luossavin_ctr_piece` meets its contract: it hands on a piece.
-use Rattle.luossavin.proofs.Steps.{handed_on}
-use Rattle.block.proofs.Base.{rules}
-use Rattle.luossavin.proofs.in_pieces.luossavin_ctr_piece.Statement.{statement}
-use Rattle.luossavin.proofs.in_pieces.luossavin_ctr_piece.Tie as tie
-
-pub luossavin_ctr_piece_spec : {M : Type 1} → statement M
-luossavin_ctr_piece_spec = tie.close (tie.spec (λ c. search rules) (λ c. search rules) (λ c. search rules)
-    (λ c. handed_on c.ctr_step.ensures c.piece.ensures))

@@ -1,8 +1,0 @@
--- `luossavin::shelves::luossavin_shelf_put` meets its contract: it reports what putting leaves.
-use Rattle.block.proofs.Base.{rules}
-use Rattle.luossavin.proofs.shelves.luossavin_shelf_put.Statement.{statement}
-use Rattle.luossavin.proofs.shelves.luossavin_shelf_put.Tie as tie
-
-pub luossavin_shelf_put_spec : {M : Type 1} → statement M
-luossavin_shelf_put_spec = tie.close (tie.spec (λ c. search rules) (λ c. search rules) (λ c. search rules)
-    (λ c. rw (c.report_kept.ensures.0, c.report_kept.ensures.1) c.put.ensures))
