@@ -107,12 +107,6 @@ module _ (starts lengths : List ℕ) (count i at n : ℕ)
         (told (eqb s at) (not (eqb l 0)) (leb l (n - at)) (is_last ss || eqb (l % 16) 0) (follows (at + l) n ss ls)
         (λ e. le-leb l (n - at) (omega (arith, reaches (at + l) n ss ls e))))
 
-    pub piece-fits : is_piece s l at (n - at) (eqb (i + 1) count) ≡ true → at + l ≤ n
-    unfolding is_piece
-    piece-fits e =
-        let fits = leb-true l (n - at) (and_left (leb l (n - at)) _ (and_right (not (eqb l 0)) _ (and_right (eqb s at) _ e))) in
-        omega (arith, fits)
-
 -- after the last piece
 pub ends : (starts lengths : List ℕ) (count i at n : ℕ) → count ≤ length starts → count ≤ i
     → follows_from starts lengths count n i at ≡ eqb at n

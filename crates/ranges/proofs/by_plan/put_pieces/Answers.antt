@@ -4,9 +4,8 @@ use Rattle.ranges.proofs.Names.{length, rules, stream_mode, sym, take, take_all,
 use Rattle.ranges.proofs.Accepted.{at_most_64, from_0_to_n}
 use Rattle.ranges.proofs.Following.{First, follows_from, follows_on, ends}
 use Rattle.ranges.proofs.Joined.{joined}
-use Rattle.ranges.proofs.SideBySide.{as_many, yielded}
-use Rattle.std.proofs.lemmas.Iterator.{YieldsList-from_slice, YieldsList-from_take, YieldsList-from_zip}
-use Rattle.std.proofs.lemmas.Iterator.Consumers.{YieldsList-at, YieldsList-end, YieldsList-turn}
+use Rattle.ranges.proofs.SideBySide.{as_many, over_pieces, yielded}
+use Rattle.std.proofs.lemmas.Iterator.Consumers.{YieldsList-end, YieldsList-turn}
 use Rattle.std.proofs.lemmas.List.{length_push}
 use Rattle.ranges.proofs.by_plan.put_pieces.Goals as goal
 
@@ -33,12 +32,8 @@ overflow_add-end c =
     let p = c.args.plan in
     let l = c.loop-start in
     let road =
-    YieldsList-at c.into_iter-start-iterator.ensures.into_iter_gives
-    (YieldsList-from_take p.count
-    (YieldsList-at c.take-start-items.ensures.source
-    (YieldsList-from_zip (YieldsList-at c.zip.ensures.first (YieldsList-from_slice p.starts c.iter.ensures.rest))
-    (YieldsList-from_slice p.lengths cc)))
-    c.take-start-items.ensures.count) in
+    over_pieces p c.into_iter-start-iterator.ensures.into_iter_gives c.take-start-items.ensures.source c.take-start-items.ensures.count
+    c.zip.ensures.first c.iter.ensures.rest cc in
     let turn =
     YieldsList-turn road l.yielded l.start-iterator l.yielded_by c.next.result c.next.new.self (c.in-Some.start, c.in-Some.length) c.in-Some.is
     c.next.ensures.steps in
@@ -51,12 +46,8 @@ slice_bounds-put_stretch-end c =
     let p = c.args.plan in
     let l = c.loop-start in
     let road =
-    YieldsList-at c.into_iter-start-iterator.ensures.into_iter_gives
-    (YieldsList-from_take p.count
-    (YieldsList-at c.take-start-items.ensures.source
-    (YieldsList-from_zip (YieldsList-at c.zip.ensures.first (YieldsList-from_slice p.starts c.iter.ensures.rest))
-    (YieldsList-from_slice p.lengths cc)))
-    c.take-start-items.ensures.count) in
+    over_pieces p c.into_iter-start-iterator.ensures.into_iter_gives c.take-start-items.ensures.source c.take-start-items.ensures.count
+    c.zip.ensures.first c.iter.ensures.rest cc in
     let turn =
     YieldsList-turn road l.yielded l.start-iterator l.yielded_by c.next.result c.next.new.self (c.in-Some.start, c.in-Some.length) c.in-Some.is
     c.next.ensures.steps in
@@ -69,12 +60,8 @@ loop-start-preserved c =
     let p = c.args.plan in
     let l = c.loop-start in
     let road =
-    YieldsList-at c.into_iter-start-iterator.ensures.into_iter_gives
-    (YieldsList-from_take p.count
-    (YieldsList-at c.take-start-items.ensures.source
-    (YieldsList-from_zip (YieldsList-at c.zip.ensures.first (YieldsList-from_slice p.starts c.iter.ensures.rest))
-    (YieldsList-from_slice p.lengths cc)))
-    c.take-start-items.ensures.count) in
+    over_pieces p c.into_iter-start-iterator.ensures.into_iter_gives c.take-start-items.ensures.source c.take-start-items.ensures.count
+    c.zip.ensures.first c.iter.ensures.rest cc in
     let turn =
     YieldsList-turn road l.yielded l.start-iterator l.yielded_by c.next.result c.next.new.self (c.in-Some.start, c.in-Some.length) c.in-Some.is
     c.next.ensures.steps in
@@ -98,12 +85,8 @@ returns c =
     let p = c.args.plan in
     let l = c.loop-start in
     let road =
-    YieldsList-at c.into_iter-start-iterator.ensures.into_iter_gives
-    (YieldsList-from_take p.count
-    (YieldsList-at c.take-start-items.ensures.source
-    (YieldsList-from_zip (YieldsList-at c.zip.ensures.first (YieldsList-from_slice p.starts c.iter.ensures.rest))
-    (YieldsList-from_slice p.lengths cc)))
-    c.take-start-items.ensures.count) in
+    over_pieces p c.into_iter-start-iterator.ensures.into_iter_gives c.take-start-items.ensures.source c.take-start-items.ensures.count
+    c.zip.ensures.first c.iter.ensures.rest cc in
     let all = YieldsList-end road l.yielded l.start-iterator l.yielded_by c.next.result c.next.new.self c.in-None.is c.next.ensures.steps in
     let d = c.args.«data».now in
     let few = at_most_64 _ _ c.requires.data_value in

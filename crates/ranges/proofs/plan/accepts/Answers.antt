@@ -1,9 +1,8 @@
 -- The test of the piece at a turn decides, and one that it lets through lies within n.
 use Rattle.ranges.proofs.Names.{◌∙◌, ◌≡◌, accepts, arith, le-leb, length, lt-leb, rules, sym}
 use Rattle.ranges.proofs.Following.{decided, ends, fits}
-use Rattle.ranges.proofs.SideBySide.{as_many, yielded}
-use Rattle.std.proofs.lemmas.Iterator.{YieldsList-from_slice, YieldsList-from_take, YieldsList-from_zip}
-use Rattle.std.proofs.lemmas.Iterator.Consumers.{YieldsList-at, YieldsList-end, YieldsList-turn}
+use Rattle.ranges.proofs.SideBySide.{as_many, over_pieces, yielded}
+use Rattle.std.proofs.lemmas.Iterator.Consumers.{YieldsList-end, YieldsList-turn}
 use Rattle.std.proofs.lemmas.List.{length_push}
 use Rattle.ranges.proofs.plan.accepts.Goals as goal
 
@@ -17,12 +16,8 @@ returns-then-not-is_piece c =
     let p = c.args.plan in
     let l = c.loop-start in
     let road =
-    YieldsList-at c.into_iter-start-iterator.ensures.into_iter_gives
-    (YieldsList-from_take p.count
-    (YieldsList-at c.take-start-items.ensures.source
-    (YieldsList-from_zip (YieldsList-at c.zip.ensures.first (YieldsList-from_slice p.starts c.iter.ensures.rest))
-    (YieldsList-from_slice p.lengths cc)))
-    c.take-start-items.ensures.count) in
+    over_pieces p c.into_iter-start-iterator.ensures.into_iter_gives c.take-start-items.ensures.source c.take-start-items.ensures.count
+    c.zip.ensures.first c.iter.ensures.rest cc in
     let turn =
     YieldsList-turn road l.yielded l.start-iterator l.yielded_by c.next.result c.next.new.self (c.in-Some.start, c.in-Some.length) c.in-Some.is
     c.next.ensures.steps in
@@ -36,12 +31,8 @@ overflow_add-at c =
     let p = c.args.plan in
     let l = c.loop-start in
     let road =
-    YieldsList-at c.into_iter-start-iterator.ensures.into_iter_gives
-    (YieldsList-from_take p.count
-    (YieldsList-at c.take-start-items.ensures.source
-    (YieldsList-from_zip (YieldsList-at c.zip.ensures.first (YieldsList-from_slice p.starts c.iter.ensures.rest))
-    (YieldsList-from_slice p.lengths cc)))
-    c.take-start-items.ensures.count) in
+    over_pieces p c.into_iter-start-iterator.ensures.into_iter_gives c.take-start-items.ensures.source c.take-start-items.ensures.count
+    c.zip.ensures.first c.iter.ensures.rest cc in
     let turn =
     YieldsList-turn road l.yielded l.start-iterator l.yielded_by c.next.result c.next.new.self (c.in-Some.start, c.in-Some.length) c.in-Some.is
     c.next.ensures.steps in
@@ -55,12 +46,8 @@ loop-start-preserved c =
     let p = c.args.plan in
     let l = c.loop-start in
     let road =
-    YieldsList-at c.into_iter-start-iterator.ensures.into_iter_gives
-    (YieldsList-from_take p.count
-    (YieldsList-at c.take-start-items.ensures.source
-    (YieldsList-from_zip (YieldsList-at c.zip.ensures.first (YieldsList-from_slice p.starts c.iter.ensures.rest))
-    (YieldsList-from_slice p.lengths cc)))
-    c.take-start-items.ensures.count) in
+    over_pieces p c.into_iter-start-iterator.ensures.into_iter_gives c.take-start-items.ensures.source c.take-start-items.ensures.count
+    c.zip.ensures.first c.iter.ensures.rest cc in
     let turn =
     YieldsList-turn road l.yielded l.start-iterator l.yielded_by c.next.result c.next.new.self (c.in-Some.start, c.in-Some.length) c.in-Some.is
     c.next.ensures.steps in
@@ -83,12 +70,8 @@ returns c =
     let p = c.args.plan in
     let l = c.loop-start in
     let road =
-    YieldsList-at c.into_iter-start-iterator.ensures.into_iter_gives
-    (YieldsList-from_take p.count
-    (YieldsList-at c.take-start-items.ensures.source
-    (YieldsList-from_zip (YieldsList-at c.zip.ensures.first (YieldsList-from_slice p.starts c.iter.ensures.rest))
-    (YieldsList-from_slice p.lengths cc)))
-    c.take-start-items.ensures.count) in
+    over_pieces p c.into_iter-start-iterator.ensures.into_iter_gives c.take-start-items.ensures.source c.take-start-items.ensures.count
+    c.zip.ensures.first c.iter.ensures.rest cc in
     let all = YieldsList-end road l.yielded l.start-iterator l.yielded_by c.next.result c.next.new.self c.in-None.is c.next.ensures.steps in
     let few = c.if-plan-gt-MOST.false in
     let room : length p.starts ≡ 64 = search rules in
