@@ -14,7 +14,10 @@ pub top_half : (a b : ℕ) → whole a b < 2 ^ 127 → a < 2 ^ 63
 top_half a b l = top_digit (2 ^ 64) (2 ^ 63) a b (lit< tt) l
 
 -- a product of two numbers of 128 bits has no more than 255
-pub top_lt : (a b c d x y1 y0 : ℕ) → y1 < 2 ^ 64 → y0 < 2 ^ 64 → whole a b * 2 ^ 128 + whole c d ≡ clmul 128 x (whole y1 y0) → a < 2 ^ 63
-top_lt a b c d x y1 y0 h l e =
-    let y = digits_lt {m = 2 ^ 64} {c = 2 ^ 64} h l in
-    top_half a b (top_digit (2 ^ 128) (2 ^ 127) (whole a b) (whole c d) (lit< tt) (rw e (clmul-lt 127 128 x (whole y1 y0) y)))
+pub top_lt : (a b c d x y : ℕ) → y < 2 ^ 128 → whole a b * 2 ^ 128 + whole c d ≡ clmul 128 x y → a < 2 ^ 63
+top_lt a b c d x y h e = top_half a b (top_digit (2 ^ 128) (2 ^ 127) (whole a b) (whole c d) (lit< tt) (rw e (clmul-lt 127 128 x y h)))
+
+-- a number of two halves is one of 128 bits
+pub top_of_halves : (a b c d x y1 y0 : ℕ) → y1 < 2 ^ 64 → y0 < 2 ^ 64 → whole a b * 2 ^ 128 + whole c d ≡ clmul 128 x (whole y1 y0)
+    → a < 2 ^ 63
+top_of_halves a b c d x y1 y0 h l e = top_lt a b c d x (whole y1 y0) (digits_lt {m = 2 ^ 64} {c = 2 ^ 64} h l) e

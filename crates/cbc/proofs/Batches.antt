@@ -46,23 +46,26 @@ module _ (back : List ℕ) where
       decrypted m (λ i. stepped M i s d) (λ i. block_at d i) o t (et ∙ ap (λ (x : List ℕ). over x o) xored)
 
   -- a state on the way is a block
-  full_state : (s d : List ℕ) (n i : ℕ) → length s ≡ 16 → 16 * n ≤ length d → i < n
+  pub full_state : (s d : List ℕ) (n i : ℕ) → length s ≡ 16 → 16 * n ≤ length d → i < n
       → length (stepped (cbc_decrypt (reverse back)) i s d) ≡ 16
   full_state s d n i hs hd h =
       ap length (states_before (cbc_decrypt (reverse back)) decrypt_fed i s d hs)
       ∙ length-block_at (s ++ d) i n h (rw length-append (omega arith))
 
   -- the state n blocks further on is the block before that place
-  fed_next : (n : ℕ) (s r d : List ℕ) (at : ℕ) → length s ≡ 16 → length r ≡ 16 → r ≡ take 16 (drop at (s ++ d))
+  pub fed_next : (s r d : List ℕ) (at n : ℕ) → length s ≡ 16 → length r ≡ 16 → 1 ≤ n
+      → take 16 (drop (at + 16 * n) (s ++ d)) ≡ stepped (cbc_decrypt (reverse back)) n r (drop at d)
+  fed_next s r d at n hs hr h =
+      let k : at + (16 * n - 16) ≡ at + 16 * n - 16 = omega arith in
+      block-before s d (at + 16 * n) hs (omega arith) ∙ sym (states_before (cbc_decrypt (reverse back)) decrypt_fed n r (drop at d) hr
+      ∙ block-before r (drop at d) (16 * n) hr (omega arith) ∙ ap (take 16) (drop-drop (16 * n - 16) at d ∙ ap (λ (x : ℕ). drop x d) k))
+
+  -- and with none further on, where that is the block before the place
+  fed_on : (n : ℕ) (s r d : List ℕ) (at : ℕ) → length s ≡ 16 → length r ≡ 16 → r ≡ take 16 (drop at (s ++ d))
       → take 16 (drop (at + 16 * n) (s ++ d)) ≡ stepped (cbc_decrypt (reverse back)) n r (drop at d)
   unfolding stepped
-  fed_next zero s r d at hs hr e = let z : at + 16 * 0 ≡ at = omega arith in rw z (sym e)
-  fed_next (suc n) s r d at hs hr e =
-      let b = 16 * suc n - 16 in
-      let k : at + b ≡ at + 16 * suc n - 16 = omega arith in
-      block-before s d (at + 16 * suc n) hs (omega arith)
-      ∙ sym (states_before (cbc_decrypt (reverse back)) decrypt_fed (suc n) r (drop at d) hr
-      ∙ block-before r (drop at d) (16 * suc n) hr (omega arith) ∙ ap (take 16) (drop-drop b at d ∙ ap (λ (x : ℕ). drop x d) k))
+  fed_on zero s r d at hs hr e = let z : at + 16 * 0 ≡ at = omega arith in rw z (sym e)
+  fed_on (suc n) s r d at hs hr e = fed_next s r d at (suc n) hs hr (omega arith)
 
   -- n blocks more were written, side by side, where the walk had come to
   pub few_on : (n : ℕ) (s r d o p t : List ℕ) (at : ℕ) → length s ≡ 16 → length r ≡ 16 → r ≡ take 16 (drop at (s ++ d))
@@ -72,4 +75,4 @@ module _ (back : List ℕ) where
   few_on n s r d o p t at hs hr e R hd hp et =
       let room : 16 * n ≤ length (drop at d) = rw length-drop (omega arith) in
       reached_on (cbc_decrypt (reverse back)) s d o r p at (rw (← e) at R) n _ t hd hp
-      (λ i h. decrypt-block _ _ _ (full_state r (drop at d) n i hr room h)) (fed_next n s r d at hs hr e) (rw (tail_is d at) at et)
+      (λ i h. decrypt-block _ _ _ (full_state r (drop at d) n i hr room h)) (fed_on n s r d at hs hr e) (rw (tail_is d at) at et)

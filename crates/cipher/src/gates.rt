@@ -1,5 +1,5 @@
 // The engine of gates: the S-box by the circuit, with neither a look-up nor a branch.
-ghost use Rattle.std.specs.Prelude.{◌≡◌, ◌≤◌};
+ghost use Rattle.std.specs.Prelude.{◌≡◌, [], ◌≤◌};
 ghost use Rattle.cipher.specs.Sm4.{tau, T};
 ghost use Rattle.cipher.specs.Gates.{four_lanes, four_bytes};
 
@@ -11,6 +11,8 @@ pub(crate) struct Gates;
 
 impl RoundMap for Gates {
     ghost map = { T };
+
+    ghost table = { [] };
 
     #[tactic(auto, unfolding(crate::specs::Sm4::T))]
     fn trans(input: u32) -> u32 {

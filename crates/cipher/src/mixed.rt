@@ -2,7 +2,7 @@
 // word is one entry of each table, xored.
 ghost use Rattle.std.specs.Prelude.{◌≡◌};
 ghost use Rattle.cipher.specs.Sm4.{T};
-ghost use Rattle.cipher.specs.Engine.{table_of};
+ghost use Rattle.cipher.specs.Engine.{mixed_table, table_of};
 
 use crate::Engine;
 use crate::constants::MIXED;
@@ -12,6 +12,8 @@ pub(crate) struct FourTables;
 
 impl RoundMap for FourTables {
     ghost map = { T };
+
+    ghost table = { mixed_table };
 
     #[tactic(auto, using(crate::proofs::FourTables::mixed_T))]
     fn trans(input: u32) -> u32 {

@@ -1,6 +1,6 @@
 // The plain engine: the S-box, looked up byte by byte, as the standard is written.
 ghost use Rattle.std.specs.Prelude.{◌≡◌};
-ghost use Rattle.cipher.specs.Sm4.{Sbox, tau, T};
+ghost use Rattle.cipher.specs.Sm4.{sbox_table, Sbox, tau, T};
 ghost use Rattle.cipher.specs.Engine.{table_of};
 
 use crate::constants::SBOX;
@@ -11,6 +11,8 @@ pub(crate) struct Plain;
 
 impl RoundMap for Plain {
     ghost map = { T };
+
+    ghost table = { sbox_table };
 
     #[tactic(auto, unfolding(crate::specs::Sm4::T))]
     fn trans(input: u32) -> u32 {

@@ -1,10 +1,16 @@
 // The rounds, by any map of a word.
-ghost use Rattle.std.specs.Prelude.{◌≡◌, ℕ};
+ghost use Rattle.std.specs.Prelude.{◌≡◌, List, ℕ};
 ghost use Rattle.cipher.specs.Sm4.{T, round_by, encrypt_words};
+ghost use Rattle.cipher.specs.Engine.{table_of};
+
+use crate::Engine;
 
 // What a round makes of a word: the map T, to which each engine has a way of its own, or T' in the key sequence.
 pub(crate) trait RoundMap {
     ghost map: { ℕ → ℕ };
+
+    // What it looks up.
+    ghost table: { List ℕ };
 
     fn trans(input: u32) -> u32
         ensures { result ≡ map input };
@@ -19,8 +25,9 @@ pub(crate) fn round<M: RoundMap>(x: [u32; 4], k: u32) -> [u32; 4]
 
 // One block, encrypted. The round keys go four at a time, since the back end then writes four rounds by tables out one after the other, and
 // puts the gates in place, which it calls in a single loop.
-pub(crate) fn encrypt<M: RoundMap>(rk: [u32; 32], block_in: [u32; 4]) -> [u32; 4]
-    requires { M.map ≡ T }
+pub(crate) fn encrypt<M: RoundMap>(engine: Engine, rk: [u32; 32], block_in: [u32; 4]) -> [u32; 4]
+    requires map { M.map ≡ T }
+    requires table { M.table ≡ table_of engine }
     ensures { result ≡ encrypt_words rk block_in }
 {
     let mut x = block_in;

@@ -138,16 +138,35 @@ impl Message<'_> {
         let n = self.text_length();
         let begun = gcm::start(self.engine, self.rk, self.iv, n);
         let came_round = counter::gcm_came_round(begun.j0[3], n);
+        let pads = begun.pads.as_ref().map(<[u8; 512]>::as_slice);
         match self.direction {
             Direction::Encrypt => {
-                gcm::encrypt(self.engine, self.rk, &begun, self.aad, self.data, out);
+                gcm::encrypt(
+                    self.engine,
+                    self.rk,
+                    begun.h,
+                    begun.j0,
+                    pads,
+                    self.aad,
+                    self.data,
+                    out,
+                );
                 Ok(Done {
                     length: checks::encrypted_length(CipherMode::Gcm, self.data.len()),
                     came_round,
                 })
             }
             Direction::Decrypt => {
-                if gcm::decrypt(self.engine, self.rk, &begun, self.aad, self.data, out) {
+                if gcm::decrypt(
+                    self.engine,
+                    self.rk,
+                    begun.h,
+                    begun.j0,
+                    pads,
+                    self.aad,
+                    self.data,
+                    out,
+                ) {
                     Ok(Done {
                         length: n,
                         came_round,

@@ -4,7 +4,7 @@ use Rattle.demands.specs.Names as N
 use N.{cond, not, List, [], ◌∷◌, ◌∙◌, ◌≡◌, ap, refl, sym, ◌-◌, ℕ, eqb, get_or, Head, Outcome, ending_head, head_of, outcome, refusal_head, Answer}
 use N.{Option, None, Some, Result, Ok, Err, Done, Refusal, Stepped, stepped, Step, CtrState as Ctr, Opens, Seal, Verdict, ended_verdict}
 use N.{verdict_of, Candidate, Unanswered, BadList, RefusedAsked, Found, plan_head, planned_outcome, ByPlan, NotDone, NotAccepted}
-use N.{RefusedPlan, ShelfOutcome, Place, shelf_number, outcome_of, place_in, Unshelved, BadShelf, NoCurrent, NoRoomShelf, NotHigher}
+use N.{RefusedPlan, ShelfOutcome, Place, shelf_number, outcome_of, place_in, NotKept, Unshelved, BadShelf, NoCurrent, NoRoomShelf, NotHigher}
 use N.{ShelfFound, Leaves, Unwritten, head_in, reported, ctr_reported, opens_reported, seal_reported, Handed, planned_reported}
 use N.{shelf_reported, shelved_reported, Told, found_reported, LuossavinAnswer, LuossavinLabel, LuossavinCtrStep, LuossavinOpensStep}
 use N.{LuossavinSealStep, LuossavinShelf, LuossavinShelved, LuossavinFound, LuossavinPlanned}
@@ -126,26 +126,27 @@ abbrev shelf_end : {A : Type 0} → A → (Unshelved → A) → ℕ → A
 shelf_end done refused n =
     cond (eqb n 0) done (refused (get_or (BadShelf ∷ NotHigher ∷ NoRoomShelf ∷ NoCurrent ∷ []) (n - 19) BadShelf))
 
-shelf_told : {A : Type 0} (done : A) (refused : Unshelved → A) (e : Unshelved) → shelf_end done refused (shelf_number e) ≡ refused e
+shelf_told : {A : Type 0} (done : A) (refused : Unshelved → A) (e : Unshelved)
+    → shelf_end done refused (shelf_number (Some e)) ≡ refused e
 shelf_told done refused BadShelf = refl
 shelf_told done refused NotHigher = refl
 shelf_told done refused NoRoomShelf = refl
 shelf_told done refused NoCurrent = refl
 
-abbrev kept_of : ShelfOutcome → Result ℕ Unshelved × List ℕ
-kept_of y = (shelf_end (Ok y.used) Err y.number, y.bytes)
+abbrev kept_of : ShelfOutcome → Result ℕ NotKept × List ℕ
+kept_of y = (shelf_end (Ok y.used) (λ why. Err (record { why = why; used = y.used })) y.number, y.bytes)
 
-kept_told : (used : ℕ) (k : Result ℕ Unshelved) (o : List ℕ) → kept_of (outcome_of used k o) ≡ (k, o)
-kept_told used (Ok n) o = refl
-kept_told used (Err e) o = rw (shelf_told (Ok used) Err e)
+kept_told : (k : Result ℕ NotKept) (o : List ℕ) → kept_of (outcome_of k o) ≡ (k, o)
+kept_told (Ok n) o = refl
+kept_told (Err e) o = rw (shelf_told {A = Result ℕ NotKept} (Ok e.used) (λ why. Err (record { why = why; used = e.used })) e.why)
 
 found_told : (f : Result ShelfFound Unshelved)
     → shelf_end (Ok (record { start = (place_in f).start; length = (place_in f).size })) Err (place_in f).number ≡ f
 found_told (Ok f) = refl
 found_told (Err e) = shelf_told (Ok (record { start = 0; length = 0 })) Err e
 
-pub unique_kept : (used : ℕ) (x : ShelfOutcome) → One (Result ℕ Unshelved) ShelfOutcome (outcome_of used) x
-unique_kept used = one kept_of (kept_told used)
+pub unique_kept : (x : ShelfOutcome) → One (Result ℕ NotKept) ShelfOutcome outcome_of x
+unique_kept = one kept_of kept_told
 
 pub unique_found : (x : Place) → OneValue (Result ShelfFound Unshelved) Place place_in x
 unique_found = one_value (λ p. shelf_end (Ok (record { start = p.start; length = p.size })) Err p.number) found_told

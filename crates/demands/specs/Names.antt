@@ -121,6 +121,7 @@ pub use Rattle.shelf.specs.Shelf.{collected, current_of, is_current_of}
 unfoldable pub use Rattle.shelf.specs.Shelf.{bad_shelf, fitted, has_current, not_higher, supersede, those, two_current, with_new}
 pub use Rattle.shelf.specs.Steps.{InOrder}
 pub use Rattle.shelf.specs.declared.Found.{Found as ShelfFound}
+pub use Rattle.shelf.specs.declared.NotKept.{NotKept}
 pub use Rattle.shelf.specs.declared.Unshelved.{Unshelved}
 pub use Rattle.shelf.specs.declared.Unshelved.TheVariants.{BadShelf, NoCurrent, NoRoom as NoRoomShelf, NotHigher}
 pub use Rattle.journal.specs.Ends.{AllReplayable, Ends, NoneDiffers, Replayable, Totals, answer_now, differs}

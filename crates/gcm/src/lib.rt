@@ -156,29 +156,31 @@ fn encrypt_short(h: U128, pads: &[u8], aad: &[u8], data: &[u8], out: &mut [u8])
     block::put_block(mac, &mut out[n..]);
 }
 
-// Seals `data` under the label `aad`: ciphertext, then tag. (Engine and round keys come apart, as `cipher` and `stream` take them: the keys
-// by value are one of the nine forms, docs/DECISIONS.md.)
+// Seals `data` under the label `aad`: ciphertext, then tag. A text whose pads are lent goes by them. (Engine and round keys come apart, as
+// `cipher` and `stream` take them: the keys by value are one of the nine forms, docs/DECISIONS.md.)
 pub fn encrypt(
     engine: Engine,
     rk: [u32; 32],
-    begun: &Begun,
+    h: U128,
+    j0: [u32; 4],
+    pads: Option<&[u8]>,
     aad: &[u8],
     data: &[u8],
     out: &mut [u8],
 )
-    requires pads_for { IfSome begun.now.pads (λ pads. PadsFor rk (unwords begun.now.j0) (length «data».now) pads) }
+    requires pads_for { IfSome pads (λ lent. PadsFor rk (unwords j0) (length «data».now) lent.now) }
     requires hashable { Hashable (length aad.now) × Hashable (length «data».now) }
     requires data_in_bounds { length «data».now + 16 ≤ length out.old }
-    ensures { out.new ≡ over (sealed rk (value begun.now.h) (unwords begun.now.j0) aad.now «data».now) out.old }
+    ensures { out.new ≡ over (sealed rk (value h) (unwords j0) aad.now «data».now) out.old }
 {
-    if let Some(pads) = &begun.pads {
-        encrypt_short(begun.h, pads, aad, data, out);
+    if let Some(lent) = pads {
+        encrypt_short(h, lent, aad, data, out);
         return;
     }
     let n = data.len();
-    let first = counter::gcm_block_add_one(begun.j0).counter;
+    let first = counter::gcm_block_add_one(j0).counter;
     stream::stream(engine, rk, Kind::Gctr, first, false, data, out);
-    let mac = tag(engine, rk, begun.h, begun.j0, aad, &out[..n]);
+    let mac = tag(engine, rk, h, j0, aad, &out[..n]);
     block::put_block(mac, &mut out[n..]);
 }
 
@@ -251,27 +253,30 @@ fn decrypt_short(h: U128, pads: &[u8], aad: &[u8], data: &[u8], out: &mut [u8]) 
     false
 }
 
-// Opens a sealed message: the text, once the tag is settled; otherwise `out` stays as it is. Returns whether it opens.
+// Opens a sealed message: the text, once the tag is settled; otherwise `out` stays as it is. Returns whether it opens. A text whose pads
+// are lent goes by them.
 pub fn decrypt(
     engine: Engine,
     rk: [u32; 32],
-    begun: &Begun,
+    h: U128,
+    j0: [u32; 4],
+    pads: Option<&[u8]>,
     aad: &[u8],
     data: &[u8],
     out: &mut [u8],
 ) -> bool
-    requires pads_for { IfSome begun.now.pads (λ pads. PadsFor rk (unwords begun.now.j0) (length «data».now - 16) pads) }
+    requires pads_for { IfSome pads (λ lent. PadsFor rk (unwords j0) (length «data».now - 16) lent.now) }
     requires hashable { Hashable (length aad.now) × Hashable (length «data».now) }
     requires in_bounds { (16 ≤ length «data».now) × (length «data».now - 16 ≤ length out.old) }
-    ensures value { result ≡ opens_under rk (value begun.now.h) (unwords begun.now.j0) aad.now «data».now }
-    ensures out_after { out.new ≡ text_into rk (value begun.now.h) (unwords begun.now.j0) aad.now «data».now out.old }
+    ensures value { result ≡ opens_under rk (value h) (unwords j0) aad.now «data».now }
+    ensures out_after { out.new ≡ text_into rk (value h) (unwords j0) aad.now «data».now out.old }
 {
-    if let Some(pads) = &begun.pads {
-        return decrypt_short(begun.h, pads, aad, data, out);
+    if let Some(lent) = pads {
+        return decrypt_short(h, lent, aad, data, out);
     }
-    let opened = opens(engine, rk, begun.h, begun.j0, aad, data);
+    let opened = opens(engine, rk, h, j0, aad, data);
     if opened {
-        let first = counter::gcm_block_add_one(begun.j0).counter;
+        let first = counter::gcm_block_add_one(j0).counter;
         stream::stream(engine, rk, Kind::Gctr, first, false, text_part(data), out);
     }
     opened

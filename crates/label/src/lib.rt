@@ -9,8 +9,7 @@ ghost use Rattle.label.specs.Label.{label_of};
 pub fn label(job: u32, edition: u16) -> [u8; 6]
     ensures { result ≡ label_of job edition }
 {
-    let mut label = [0; 6];
-    label[..4].copy_from_slice(&job.to_be_bytes());
-    label[4..].copy_from_slice(&edition.to_be_bytes());
-    label
+    let [a, b, c, d] = job.to_be_bytes();
+    let [high, low] = edition.to_be_bytes();
+    [a, b, c, d, high, low]
 }

@@ -4,7 +4,7 @@ ghost use Rattle.std.specs.Prelude.{◌≡◌, ℕ, List};
 ghost use Rattle.shelf.specs.Calls.{outcome_of, place_in, put_call, collect_call, find_call};
 ghost use Rattle.luossavin.specs.Shelves.{shelf_reported, shelved_reported};
 
-use shelf::{Found, Unshelved};
+use shelf::{Found, NotKept, Unshelved};
 
 // The number of how it ended, and how many bytes are used after the call: a refusal hands back the count that came.
 #[repr(C)]
@@ -23,15 +23,15 @@ pub struct LuossavinShelved {
     pub length: usize,
 }
 
-// How a change of a shelf ended whose count was `used` before it.
-fn report_kept(used: usize, kept: Result<usize, Unshelved>) -> LuossavinShelf
-    ensures { (shelf : List ℕ) → shelf_reported result shelf ≡ outcome_of used kept shelf }
+// How a change of a shelf ended.
+fn report_kept(kept: Result<usize, NotKept>) -> LuossavinShelf
+    ensures { (shelf : List ℕ) → shelf_reported result shelf ≡ outcome_of kept shelf }
 {
     match kept {
         Ok(used) => LuossavinShelf { number: 0, used },
         Err(refused) => LuossavinShelf {
-            number: shelf::number(refused),
-            used,
+            number: shelf::number(Some(refused.why)),
+            used: refused.used,
         },
     }
 }
@@ -47,7 +47,7 @@ impl From<Result<Found, Unshelved>> for LuossavinShelved {
                 length: found.length,
             },
             Err(refused) => LuossavinShelved {
-                number: shelf::number(refused),
+                number: shelf::number(Some(refused)),
                 start: 0,
                 length: 0,
             },
@@ -65,14 +65,14 @@ pub extern "C" fn luossavin_shelf_put(
 ) -> LuossavinShelf
     ensures { shelf_reported result shelf.new ≡ put_call shelf.old used job edition sealed.now }
 {
-    report_kept(used, shelf::put(shelf, used, job, edition, sealed))
+    report_kept(shelf::put(shelf, used, job, edition, sealed))
 }
 
 #[unsafe(no_mangle)]
 pub extern "C" fn luossavin_shelf_collect(shelf: &mut [u8], used: usize) -> LuossavinShelf
     ensures { shelf_reported result shelf.new ≡ collect_call shelf.old used }
 {
-    report_kept(used, shelf::collect(shelf, used))
+    report_kept(shelf::collect(shelf, used))
 }
 
 #[unsafe(no_mangle)]

@@ -1,5 +1,5 @@
 // A plan: which worker does which stretch of a message.
-ghost use Rattle.std.specs.Prelude.{◌≡◌, ◌*◌, ◌≤◌, eqb};
+ghost use Rattle.std.specs.Prelude.{◌≡◌, ◌*◌, ◌≤◌};
 ghost use Rattle.cipher_mode.specs.Tables.{limit};
 ghost use Rattle.ranges.specs.Plan.{accepts, is_piece, piece_size, plan_in, no_pieces, planned};
 
@@ -25,11 +25,11 @@ pub enum NotMade {
     TooLong,
 }
 
-// Whether a piece starts at `at`, is not empty, is no longer than what is `left`, and divides by 16 if it is not all that is left.
-fn is_piece(start: usize, length: usize, at: usize, left: usize) -> bool
-    ensures { result ≡ is_piece start length at left (eqb length left) }
+// Whether a piece starts at `at`, is not empty, is no longer than what is `left`, and divides by 16 if it is not the last.
+fn is_piece(start: usize, length: usize, at: usize, left: usize, last: bool) -> bool
+    ensures { result ≡ is_piece start length at left last }
 {
-    start == at && length != 0 && length <= left && (length == left || length % 16 == 0)
+    start == at && length != 0 && length <= left && (last || length % 16 == 0)
 }
 
 // Whether the pieces are at most 64, follow one another from 0 to `n`, none is empty, and each length but the last divides by
@@ -42,7 +42,7 @@ pub fn accepts(plan: Plan, n: usize) -> bool
     }
     let mut at = 0;
     for (start, length) in plan.starts.iter().zip(&plan.lengths).take(plan.count) {
-        if !is_piece(*start, *length, at, n - at) {
+        if !is_piece(*start, *length, at, n - at, *length == n - at) {
             return false;
         }
         at += *length;

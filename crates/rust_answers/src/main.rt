@@ -94,7 +94,7 @@ fn call(record: &Record<'_>, mark: u8, out: &mut [u8]) -> Told {
 
 // Whether no byte was written.
 fn untouched(out: &[u8]) -> bool {
-    out.iter().all(|b| *b == LENT)
+    out.iter().fold(0, |seen, b| seen | (b ^ LENT)) == 0
 }
 
 // The first `n` bytes and the others; no others where there are no more.
@@ -172,8 +172,11 @@ fn write_part(rt: &HostRuntime, names: &[String], part: u8, counts: Counts) -> i
     if counts.replayed == 0 {
         return Ok(());
     }
-    let name = names.get(part as usize).map_or("", |name| name.as_str());
-    println!(rt; "{name}: {counts}")
+    if let Some(name) = names.get(part as usize) {
+        print!(rt; "{name}")?;
+    }
+    print!(rt; ": ")?;
+    println!(rt; "{counts}")
 }
 
 // Replays the whole list and writes how it went. A part's line is written where the next part starts.

@@ -7,7 +7,7 @@ use Rattle.shelf.proofs.Names.{length-take-le, ltb, ltb-false, ne_eqb, not, not-
 use Rattle.shelf.proofs.Names.{sound_up_to, stored, sub-zero, sym, take, take-add, take-length, those, true, two_current, written}
 use Rattle.shelf.proofs.Names.{zero-add, ℕ}
 use Rattle.std.specs.Prelude.{Ok, Err}
-use Rattle.shelf.specs.declared.Unshelved.{Unshelved}
+use Rattle.shelf.specs.declared.NotKept.{NotKept}
 use Rattle.shelf.specs.declared.Unshelved.TheVariants.{BadShelf}
 use Rattle.shelf.proofs.Reading.{length-written, records-empty, stored-within}
 use Rattle.shelf.proofs.ReadsProper.{between, Turn, entry, stored-records, records-stored, more_proper, records-proper}
@@ -130,7 +130,8 @@ module _ (shelf : List ℕ) (used : ℕ) where
   not-bad o = rw (le-ltb _ _ o.size, le-ltb _ _ o.within, eq-eqb _ _ o.fills, o.single)
 
 -- what a call is told of a shelf first
-pub refused : (shelf : List ℕ) (used : ℕ) {x : Unshelved} → Err x ≡ checked shelf used → (x ≡ BadShelf) × (bad_shelf shelf used ≡ true)
+pub refused : (shelf : List ℕ) (used : ℕ) {x : NotKept} → Err x ≡ checked shelf used
+    → (x ≡ record { why = BadShelf; used = used }) × (bad_shelf shelf used ≡ true)
 refused shelf used {x} e =
     by_test (bad_shelf shelf used) (λ f. let z = rw f at e in (cc, f))
     (λ f. let z = rw f at e in absurd cc)

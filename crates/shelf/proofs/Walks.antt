@@ -51,7 +51,7 @@ abbrev pub sizes : List Head → ℕ
 sizes [] = 0
 sizes (h ∷ hs) = h.size + sizes hs
 
-sizes-kept : (coming : Option ℕ) (rs : List Record)
+pub sizes-kept : (coming : Option ℕ) (rs : List Record)
     → sizes (filter (λ h. not (comes coming h.job) && h.current) (map head_of rs)) ≡ length (stored (those (stays coming) rs))
 unfolding those stored
 sizes-kept coming [] = refl
@@ -113,3 +113,35 @@ module _ (job x : ℕ) {left : List Head} where
 
     pub sizes_on : sizes left ≡ h.size + sizes hs
     sizes_on = rw e
+
+-- what a head says of a job and an edition, and of a collection beside a record that is coming
+abbrev pub reaching : ℕ → ℕ → Head → Bool
+reaching job edition h = eqb h.job job && leb edition h.edition
+
+abbrev pub staying : Option ℕ → Head → Bool
+staying coming h = not (comes coming h.job) && h.current
+
+-- a walk that asks each head for a test, or adds up the sizes of those that pass it, at the heads that it has still before it
+module _ (test : Head → Bool) {left : List Head} where
+  pub any_none : left ≡ [] → list_any test left ≡ false
+  any_none e = rw e
+
+  pub kept_none : left ≡ [] → sizes (filter test left) ≡ 0
+  kept_none e = rw e
+
+  module _ {h : Head} {hs : List Head} (e : left ≡ h ∷ hs) where
+    pub any_here : test h ≡ true → list_any test left ≡ true
+    any_here f = rw (e, f)
+
+    pub any_on : test h ≡ false → list_any test left ≡ list_any test hs
+    any_on f = rw (e, f)
+
+    pub kept_here : test h ≡ true → sizes (filter test left) ≡ h.size + sizes (filter test hs)
+    kept_here f = rw (e, f)
+
+    pub kept_on : test h ≡ false → sizes (filter test left) ≡ sizes (filter test hs)
+    kept_on f = rw (e, f)
+
+-- what is kept is no longer than the bytes that the records are of
+pub kept-within : (coming : Option ℕ) (b : List ℕ) → length (stored (those (stays coming) (records b))) ≤ length b
+kept-within coming b = omega (arith, those-length (stays coming) (records b), stored-within b)

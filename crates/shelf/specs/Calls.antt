@@ -1,11 +1,12 @@
 -- What the three calls leave, from the inputs alone. The numbers are those of W10.
-use Rattle.std.specs.Prelude.{ℕ, ◌+◌, Bool, true, cond, List, [], Result, Ok, Err, ltb, length, take, drop}
+use Rattle.std.specs.Prelude.{ℕ, ◌+◌, Bool, true, cond, List, [], Option, Some, None, Result, Ok, Err, ltb, length, take, drop}
 use Rattle.block.specs.Over.{over}
 use Rattle.shelf.specs.Records.{Record, stored, records}
 use Rattle.shelf.specs.Shelf.{collected, has_current, place_of, size_of, not_higher, with_new, fitted, bad_shelf}
 use Rattle.shelf.specs.declared.Unshelved.{Unshelved}
 use Rattle.shelf.specs.declared.Unshelved.TheVariants.{BadShelf, NotHigher, NoRoom, NoCurrent}
 use Rattle.shelf.specs.declared.Found.{Found}
+use Rattle.shelf.specs.declared.NotKept.{NotKept}
 
 -- what putting and collecting leave
 pub record Outcome : Type 0 where
@@ -68,20 +69,21 @@ abbrev pub looked_up : List ℕ → ℕ → ℕ → List ℕ
 looked_up shelf used job = part_of (find_call shelf used job) shelf
 
 -- what every call is told first
-abbrev pub checked : List ℕ → ℕ → Result (Unit {0}) Unshelved
-checked shelf used = cond (bad_shelf shelf used) (Err BadShelf) (Ok tt)
+abbrev pub checked : List ℕ → ℕ → Result (Unit {0}) NotKept
+checked shelf used = cond (bad_shelf shelf used) (Err (record { why = BadShelf; used = used })) (Ok tt)
 
 -- the number of a refusal
-abbrev pub number_of_end : Unshelved → ℕ
-number_of_end BadShelf = 19
-number_of_end NotHigher = 20
-number_of_end NoRoom = 21
-number_of_end NoCurrent = 22
+abbrev pub number_of_end : Option Unshelved → ℕ
+number_of_end None = 0
+number_of_end (Some BadShelf) = 19
+number_of_end (Some NotHigher) = 20
+number_of_end (Some NoRoom) = 21
+number_of_end (Some NoCurrent) = 22
 
--- what an answer and the buffer spell, of a call that came with a used count: a refusal leaves that count
-abbrev pub outcome_of : ℕ → Result ℕ Unshelved → List ℕ → Outcome
-outcome_of came (Ok used) shelf = record { number = 0; used = used; bytes = shelf }
-outcome_of came (Err refused) shelf = record { number = number_of_end refused; used = came; bytes = shelf }
+-- what an answer and the buffer spell
+abbrev pub outcome_of : Result ℕ NotKept → List ℕ → Outcome
+outcome_of (Ok used) shelf = record { number = 0; used = used; bytes = shelf }
+outcome_of (Err r) shelf = record { number = number_of_end (Some r.why); used = r.used; bytes = shelf }
 
 -- the place of what was found
 abbrev pub place_at : Found → Place
@@ -89,4 +91,4 @@ place_at f = record { number = 0; start = f.start; size = f.length }
 
 abbrev pub place_in : Result Found Unshelved → Place
 place_in (Ok f) = place_at f
-place_in (Err refused) = nowhere (number_of_end refused)
+place_in (Err refused) = nowhere (number_of_end (Some refused))

@@ -1,7 +1,7 @@
 -- What the steps of the calls are proved to do, and where a shelf that is refused breaks off. No call's definition rests on these.
 use Rattle.std.specs.Prelude.{ℕ, ◌+◌, ◌≤◌, ◌≡◌, Bool, false, not, ◌&&◌, cond, List, [], ◌∷◌, ◌++◌, Option, Some, None, ltb, eqb, length, take}
 use Rattle.shelf.specs.Records.{Record, written, stored, records, heads}
-use Rattle.shelf.specs.Shelf.{collected, has_current, two_current, supersede}
+use Rattle.shelf.specs.Shelf.{collected, has_current, not_higher, those, two_current, supersede}
 use Rattle.shelf.specs.declared.Found.{Found}
 use Rattle.shelf.specs.declared.lookup.Heads.{Heads}
 use Rattle.shelf.specs.declared.records.Head.{Head}
@@ -32,6 +32,10 @@ comes (Some new) job = eqb job new
 -- what a collection keeps: the current records, but not that of a job whose new record is coming
 abbrev pub stays : Option ℕ → Record → Bool
 stays coming r = not (comes coming r.job) && r.current
+
+-- the bytes that a collection keeps beside a new record of the job; none where some edition of it is at least this one
+abbrev pub kept_beside : ℕ → ℕ → List Record → Option ℕ
+kept_beside job edition rs = cond (not_higher job edition rs) None (Some (length (stored (those (stays (Some job)) rs))))
 
 -- what stands before a new record with so many sealed bytes
 unfoldable pub room_made : ℕ → ℕ → ℕ → List Record → List Record

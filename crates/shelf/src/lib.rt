@@ -9,7 +9,7 @@ pub mod lookup;
 pub mod records;
 
 ghost use Rattle.std.specs.Prelude.{◌≡◌};
-ghost use Rattle.shelf.specs.Calls.{checked, number_of_end, outcome_of, put_call, collect_call, place_in, place_at, find_call, part_of};
+ghost use Rattle.shelf.specs.Calls.{checked, number_of_end, outcome_of, put_call, collect_call, place_in, find_call, part_of};
 
 // The most bytes of a buffer.
 const MOST: usize = 65536;
@@ -24,6 +24,13 @@ pub enum Unshelved {
     NoCurrent,
 }
 
+// A refusal of a put or of a collection, and how many bytes are used: as many as came.
+#[derive(Clone, Copy, PartialEq, Eq, Debug)]
+pub struct NotKept {
+    pub why: Unshelved,
+    pub used: usize,
+}
+
 // A job's current record as a part of the buffer. A range of usize would not be Copy.
 #[derive(Clone, Copy, PartialEq, Eq, Debug)]
 pub struct Found {
@@ -31,24 +38,27 @@ pub struct Found {
     pub length: usize,
 }
 
-// The number of a refusal, as in docs/NUMBERS.md; the 0 of a call that is done stands in the definitions (`outcome_of`, `place_at`). No
-// From: docs/PROMISES.md has the calls of this crate by name.
-pub fn number(refused: Unshelved) -> u32
+// The number of how a call ended, as in docs/NUMBERS.md: 0 where it was done. No From: docs/PROMISES.md has the calls of this crate by name.
+pub fn number(refused: Option<Unshelved>) -> u32
     ensures { result ≡ number_of_end refused }
 {
     match refused {
-        Unshelved::BadShelf => 19,
-        Unshelved::NotHigher => 20,
-        Unshelved::NoRoom => 21,
-        Unshelved::NoCurrent => 22,
+        None => 0,
+        Some(Unshelved::BadShelf) => 19,
+        Some(Unshelved::NotHigher) => 20,
+        Some(Unshelved::NoRoom) => 21,
+        Some(Unshelved::NoCurrent) => 22,
     }
 }
 
-fn check(shelf: &[u8], used: usize) -> Result<(), Unshelved>
+fn check(shelf: &[u8], used: usize) -> Result<(), NotKept>
     ensures { result ≡ checked shelf.now used }
 {
     if shelf.len() > MOST || used > shelf.len() || lookup::sound_up_to(&shelf[..used]) != used {
-        return Err(Unshelved::BadShelf);
+        return Err(NotKept {
+            why: Unshelved::BadShelf,
+            used,
+        });
     }
     Ok(())
 }
@@ -61,16 +71,22 @@ pub fn put(
     job: u32,
     edition: u16,
     sealed: &[u8],
-) -> Result<usize, Unshelved>
-    ensures { outcome_of used result shelf.new ≡ put_call shelf.old used job edition sealed.now }
+) -> Result<usize, NotKept>
+    ensures { outcome_of result shelf.new ≡ put_call shelf.old used job edition sealed.now }
 {
     check(shelf, used)?;
-    if lookup::reached(&shelf[..used], job, edition) {
-        return Err(Unshelved::NotHigher);
-    }
+    let Some(kept) = lookup::kept_beside(&shelf[..used], job, edition) else {
+        return Err(NotKept {
+            why: Unshelved::NotHigher,
+            used,
+        });
+    };
     let n = sealed.len();
-    if change::short(shelf.len(), lookup::kept(&shelf[..used], Some(job)), n) {
-        return Err(Unshelved::NoRoom);
+    if change::short(shelf.len(), kept, n) {
+        return Err(NotKept {
+            why: Unshelved::NoRoom,
+            used,
+        });
     }
     let at = change::make_room(shelf, used, job, n);
     change::write(job, edition, sealed, &mut shelf[at..]);
@@ -78,8 +94,8 @@ pub fn put(
 }
 
 // Throws out every superseded record, and hands back how many bytes are used now.
-pub fn collect(shelf: &mut [u8], used: usize) -> Result<usize, Unshelved>
-    ensures { outcome_of used result shelf.new ≡ collect_call shelf.old used }
+pub fn collect(shelf: &mut [u8], used: usize) -> Result<usize, NotKept>
+    ensures { outcome_of result shelf.new ≡ collect_call shelf.old used }
 {
     check(shelf, used)?;
     Ok(change::keep(shelf, used, None))
@@ -89,15 +105,20 @@ pub fn collect(shelf: &mut [u8], used: usize) -> Result<usize, Unshelved>
 pub fn find(shelf: &[u8], used: usize, job: u32) -> Result<Found, Unshelved>
     ensures { place_in result ≡ find_call shelf.now used job }
 {
-    check(shelf, used)?;
+    if let Err(refused) = check(shelf, used) {
+        return Err(refused.why);
+    }
     lookup::current(&shelf[..used], job).ok_or(Unshelved::NoCurrent)
 }
 
 // The record found, as a part of the buffer that was asked; an empty part where an answer that a caller made up points outside. The two
 // lines stand in `editions::part` too, and are no plainer by a function of `block` with a definition of its own.
-pub fn part(shelf: &[u8], found: Found) -> &[u8]
-    ensures { result.now ≡ part_of (place_at found) shelf.now }
+pub fn part(shelf: &[u8], found: Result<Found, Unshelved>) -> &[u8]
+    ensures { result.now ≡ part_of (place_in found) shelf.now }
 {
+    let Ok(found) = found else {
+        return &[];
+    };
     let behind = shelf.get(found.start..).unwrap_or(&[]);
     behind.get(..found.length).unwrap_or(&[])
 }

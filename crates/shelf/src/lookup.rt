@@ -1,8 +1,8 @@
 // What the records of a shelf say: here `used` is its used bytes, which are its records.
-ghost use Rattle.std.specs.Prelude.{◌≡◌, length};
-ghost use Rattle.shelf.specs.Records.{stored, records, heads};
-ghost use Rattle.shelf.specs.Shelf.{has_current, not_higher, those};
-ghost use Rattle.shelf.specs.Steps.{sound_up_to, stays, current_in};
+ghost use Rattle.std.specs.Prelude.{◌≡◌};
+ghost use Rattle.shelf.specs.Records.{records, heads};
+ghost use Rattle.shelf.specs.Shelf.{has_current};
+ghost use Rattle.shelf.specs.Steps.{sound_up_to, kept_beside, current_in};
 
 use crate::records::Head;
 use crate::{Found, records};
@@ -51,21 +51,21 @@ fn has_current(used: &[u8], job: u32) -> bool
     Heads(used).any(|head| head.is_current_of(job))
 }
 
-// Whether some record of the job has at least this edition.
-pub(crate) fn reached(used: &[u8], job: u32, edition: u16) -> bool
-    ensures { result ≡ not_higher job edition (records used.now) }
+// How many bytes a collection keeps beside a record of the job that is coming, in one walk; none where some record of the job has at
+// least its edition.
+pub(crate) fn kept_beside(used: &[u8], job: u32, edition: u16) -> Option<usize>
+    ensures { result ≡ kept_beside job edition (records used.now) }
 {
-    Heads(used).any(|head| head.reaches(job, edition))
-}
-
-// How many bytes a collection keeps.
-pub(crate) fn kept(used: &[u8], coming: Option<u32>) -> usize
-    ensures { result ≡ length (stored (those (stays coming) (records used.now))) }
-{
-    Heads(used)
-        .filter(|head| head.stays(coming))
-        .map(|head| head.size)
-        .sum()
+    let mut kept = 0;
+    for head in Heads(used) {
+        if head.reaches(job, edition) {
+            return None;
+        }
+        if head.stays(Some(job)) {
+            kept += head.size;
+        }
+    }
+    Some(kept)
 }
 
 // How many bytes are in order. A shelf whose used bytes are not all in order breaks off there: at a record that does not stand

@@ -1,31 +1,35 @@
 // The file of vectors: hex digits that spell fields, each a byte that says how long it is and then its bytes; and six fields are a
 // vector.
-use cipher_mode::CipherMode;
-use std::alloc::{AllocError, Global};
+ghost use Rattle.std.specs.Prelude.{◌≤◌, length};
 
 // What a vector is of.
 #[derive(Clone, Copy, PartialEq, Eq, Debug)]
 pub(crate) enum Kind {
-    Mode(CipherMode),
+    Cfb,
+    Ofb,
+    Ctr,
+    Cbc,
+    Gcm,
     Block,
     // A block, encrypted 1,000,000 times over.
     Million,
     // GHASH, with H in the key's place.
     Hash,
-    // Of no kind that there is: ours takes it as Gcm, as `mode_of` does, and the independent one as Cfb.
+    // Of no kind that there is: ours takes it as Gcm, and the independent one as Cfb.
     Unknown,
 }
 
 impl From<&[u8]> for Kind {
     fn from(field: &[u8]) -> Kind {
         match field {
+            [0] => Kind::Cfb,
+            [1] => Kind::Ofb,
+            [2] => Kind::Ctr,
+            [3] => Kind::Cbc,
+            [4] => Kind::Gcm,
             [5] => Kind::Block,
             [6] => Kind::Million,
             [7] => Kind::Hash,
-            [number] => match CipherMode::try_from(*number as u32) {
-                Ok(mode) => Kind::Mode(mode),
-                Err(_) => Kind::Unknown,
-            },
             _ => Kind::Unknown,
         }
     }
@@ -82,19 +86,30 @@ fn digit(b: u8) -> Option<u8> {
     }
 }
 
-// The bytes that a file spells. Comments, from # to the end of the line, and blanks and line ends spell nothing.
-pub(crate) fn spelled(alloc: Global, file: &[u8]) -> Result<Vec<u8>, AllocError> {
-    let mut digits = Vec::new(alloc);
-    for line in file.split(|b| *b == b'\n') {
-        for b in line.iter().take_while(|b| **b != b'#') {
-            if let Some(digit) = digit(*b) {
-                digits.push(digit)?;
+// Puts the bytes that a file spells to its own front, and says how many they are. Comments, from # to the end of the line, and blanks and
+// line ends spell nothing.
+pub(crate) fn spelled(file: &mut [u8]) -> usize
+    ensures { result ≤ length file.new }
+{
+    let mut comment = false;
+    let mut half = None;
+    let mut n = 0;
+    for i in 0..file.len() {
+        let b = file[i];
+        comment = b == b'#' || comment && b != b'\n';
+        if comment {
+            continue;
+        }
+        if let Some(digit) = digit(b) {
+            match half {
+                None => half = Some(digit),
+                Some(high) => {
+                    file[n] = high << 4 | digit;
+                    n += 1;
+                    half = None;
+                }
             }
         }
     }
-    let (pairs, _) = digits.as_slice().as_chunks::<2>();
-    pairs
-        .iter()
-        .map(|[high, low]| high << 4 | low)
-        .collect(alloc)
+    n
 }

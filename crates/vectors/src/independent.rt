@@ -1,11 +1,10 @@
-// A second SM4, with its modes and its hash, that shares no table and no function with the product's
-// crates, only the names of the modes, and is written another way: a block is a number of 128 bits, S-box, L and L' are products of
+// A second SM4, with its modes and its hash, that shares no table and no code with the product's
+// crates and is written another way: a block is a number of 128 bits, S-box, L and L' are products of
 // polynomials over bits, a round key is made where its round is, and every chain is one walk. It is here
 // to be compared with, so it is plain, and nothing is proved of it but that it is safe.
 ghost use Rattle.std.specs.Prelude.{◌<◌, ◌≤◌, length};
 
 use crate::file::{Kind, Vector};
-use cipher_mode::CipherMode;
 use std::array;
 
 // x^8 + x^7 + x^6 + x^5 + x^4 + x^2 + 1: the field of the S-box.
@@ -78,8 +77,9 @@ fn mixed(table: &[u32; 256], x: u32) -> u32 {
 
 // One round, of a block or of a key.
 fn round(table: &[u32; 256], x: [u32; 4], own: u32) -> [u32; 4] {
-    let [a, b, c, d] = x;
-    [b, c, d, a ^ mixed(table, b ^ c ^ d ^ own)]
+    let [first, second, third, fourth] = x;
+    let changed = first ^ mixed(table, second ^ third ^ fourth ^ own);
+    [second, third, fourth, changed]
 }
 
 // Round constant i: the multiples of 7, from the one of 4 i on.
@@ -200,8 +200,7 @@ impl Sm4 {
             k = round(&self.l_prime, k, constant(i));
             x = round(&self.l, x, k[3]);
         }
-        let [a, b, c, d] = x;
-        joined([d, c, b, a])
+        joined([x[3], x[2], x[1], x[0]])
     }
 
     // Whether the sixteen bytes after the first `n` of a sealed message, whole blocks, are its tag.
@@ -223,32 +222,22 @@ impl Sm4 {
         let key = block(vector.key, 0);
         let iv = block(vector.iv, 0);
         match vector.kind {
-            Kind::Mode(CipherMode::Cfb) | Kind::Unknown => walked(
-                text,
-                expected,
-                iv,
-                |state, taken| {
-                    let put = taken ^ self.crypt(key, state);
-                    (put, put)
-                },
-            ),
-            Kind::Mode(CipherMode::Ofb) => walked(text, expected, iv, |state, taken| {
+            Kind::Cfb | Kind::Unknown => walked(text, expected, iv, |state, taken| {
+                let put = taken ^ self.crypt(key, state);
+                (put, put)
+            }),
+            Kind::Ofb => walked(text, expected, iv, |state, taken| {
                 let pad = self.crypt(key, state);
                 (taken ^ pad, pad)
             }),
-            Kind::Mode(CipherMode::Ctr) => walked(text, expected, iv, |state, taken| {
+            Kind::Ctr => walked(text, expected, iv, |state, taken| {
                 (taken ^ self.crypt(key, state), state.wrapping_add(1))
             }),
-            Kind::Mode(CipherMode::Cbc) | Kind::Block => walked(
-                text,
-                expected,
-                iv,
-                |state, taken| {
-                    let put = self.crypt(key, state ^ taken);
-                    (put, put)
-                },
-            ),
-            Kind::Mode(CipherMode::Gcm) => {
+            Kind::Cbc | Kind::Block => walked(text, expected, iv, |state, taken| {
+                let put = self.crypt(key, state ^ taken);
+                (put, put)
+            }),
+            Kind::Gcm => {
                 let j0 = with_last(iv, 1);
                 let step = |state: u128, taken: u128| (
                     taken ^ self.crypt(key, state),

@@ -41,8 +41,9 @@ fn run_all(rt: &HostRuntime, bytes: &[u8]) -> io::Result<()> {
 fn main(rt: HostRuntime) -> io::Result<()> {
     let alloc = rt.alloc();
     let path = env::args(&rt)?.nth(1).unwrap_or(String::new(alloc));
-    let file = fs::read(&rt, path.as_str())?;
+    let mut file = fs::read(&rt, path.as_str())?;
     let looked_at = file.len().min(MOST);
-    let bytes = file::spelled(alloc, &file.as_slice()[..looked_at])?;
-    run_all(&rt, bytes.as_slice())
+    let bytes = &mut file.as_mut_slice()[..looked_at];
+    let n = file::spelled(bytes);
+    run_all(&rt, &bytes[..n])
 }

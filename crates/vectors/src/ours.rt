@@ -66,10 +66,13 @@ fn hash_vector(vector: &Vector<'_>) -> bool {
 // Whether ours gives the published result of a vector.
 pub(crate) fn gives(vector: &Vector<'_>) -> bool {
     match vector.kind {
-        Kind::Mode(mode) => mode_vector(vector, mode),
+        Kind::Cfb => mode_vector(vector, CipherMode::Cfb),
+        Kind::Ofb => mode_vector(vector, CipherMode::Ofb),
+        Kind::Ctr => mode_vector(vector, CipherMode::Ctr),
+        Kind::Cbc => mode_vector(vector, CipherMode::Cbc),
+        Kind::Gcm | Kind::Unknown => mode_vector(vector, CipherMode::Gcm),
         Kind::Block => block_vector(vector, 1),
         Kind::Million => block_vector(vector, 1_000_000),
         Kind::Hash => hash_vector(vector),
-        Kind::Unknown => mode_vector(vector, CipherMode::Gcm),
     }
 }

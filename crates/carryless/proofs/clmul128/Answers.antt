@@ -4,7 +4,7 @@ use Rattle.block.specs.Wide.{value}
 use Rattle.block.specs.Xor.{◌⊕◌}
 use Rattle.carryless.specs.Carryless.{clmul}
 use Rattle.carryless.specs.Product.{product_value}
-use Rattle.carryless.proofs.Bounds.{top_lt}
+use Rattle.carryless.proofs.Bounds.{top_of_halves}
 use Rattle.carryless.proofs.Joins.{join_64, join_128}
 use Rattle.carryless.proofs.clmul128.Goals as goal
 
@@ -21,4 +21,4 @@ returns c =
     (c.joined-2.ensures ∙ join_64 x.low y.low _ _ _ (z 3 (lit< tt)) (z 4 (lit< tt)) (z 5 (lit< tt)))
     (c.joined-3.ensures
     ∙ join_64 (x.low ⊕ x.high) (y.low ⊕ y.high) _ _ _ (z 6 (lit< tt)) (z 7 (lit< tt)) (z 8 (lit< tt))) in
-    record { product = p; top = top_lt _ _ _ _ _ _ _ small.1 small.2 p }
+    record { product = p; top = top_of_halves _ _ _ _ _ _ _ small.1 small.2 p }

@@ -8,17 +8,15 @@ use Rattle.gcm.proofs.decrypt.Goals as goal
 pub returns-then-opened-clause-out_after : goal.returns-then-opened-clause-out_after
 returns-then-opened-clause-out_after c =
     let a = c.args in
-    let b = a.begun.now in
     let o = a.out.now in
-    let j = unwords b.j0 in
+    let j = unwords a.j0 in
     let opens = sym c.opens-opened.ensures ∙ c.if-opened.true in
     let is-text = text-words a.rk j _ _ c.gcm_block_add_one.ensures.counter_value ∙ ap (text_of a.rk j) c.text_part.ensures in
     c.stream.ensures.out_after ∙ ap (λ (p : List ℕ). over p o) is-text
-    ∙ into_opened a.rk (value b.h) j a.aad.now a.«data».now o opens
+    ∙ into_opened a.rk (value a.h) j a.aad.now a.«data».now o opens
 
 pub returns-else-opened-clause-out_after : goal.returns-else-opened-clause-out_after
 returns-else-opened-clause-out_after c =
     let a = c.args in
-    let b = a.begun.now in
     let closed = sym c.opens-opened.ensures ∙ c.if-opened.false in
-    into_refused a.rk (value b.h) (unwords b.j0) a.aad.now a.«data».now a.out.now closed
+    into_refused a.rk (value a.h) (unwords a.j0) a.aad.now a.«data».now a.out.now closed

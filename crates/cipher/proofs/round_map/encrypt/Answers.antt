@@ -5,7 +5,7 @@ use Rattle.cipher.proofs.round_map.encrypt.Goals as goal
 
 pub loop-k-preserved : goal.loop-k-preserved
 loop-k-preserved g c =
-    let l = c.loop-k in rw (c.round-x.ensures, c.requires) (rounds-next c.in-Some.four.now l.x l.k-index (omega arith) ∙ l.invariant)
+    let l = c.loop-k in rw (c.round-x.ensures, c.requires.map) (rounds-next c.in-Some.four.now l.x l.k-index (omega arith) ∙ l.invariant)
 
 pub loop-four-preserved : goal.loop-four-preserved
 loop-four-preserved g c =
