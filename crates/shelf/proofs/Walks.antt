@@ -1,10 +1,9 @@
 -- What the definitions over a shelf's records say at one record, and after the last.
-use Rattle.shelf.proofs.Names.{Bool, Found, Head, List, None, Option, Record, Some, [], ◌&&◌, ◌+◌, ◌||◌, ◌∙◌, ◌∷◌, ◌≡◌, ◌≤◌}
+use Rattle.shelf.proofs.Names.{Bool, Found, Head, List, None, Option, Record, Some, [], ◌&&◌, ◌+◌, ◌||◌, ◌∷◌, ◌≡◌, ◌≤◌}
 use Rattle.shelf.proofs.Names.{and_left, and_right, append-nil, arith, by_test, comes, cond, current_in, eqb, eqb-true, false, has_current}
 use Rattle.shelf.proofs.Names.{head_of, heads, is_current_of, leb, length, length-append, not, not_higher, place_of, records, refl, size_of}
-use Rattle.shelf.proofs.Names.{stays, stored, sym, those, true, two_current, written, ℕ}
-use Rattle.std.specs.List.{filter, list_any, sum_by}
-use Rattle.std.proofs.lemmas.List.Recursion.{is_sum_by}
+use Rattle.shelf.proofs.Names.{stays, stored, those, true, two_current, written, ℕ}
+use Rattle.std.specs.List.{filter, list_any}
 use mathlib.Core.List.{map}
 use Rattle.shelf.proofs.Reading.{stored-within}
 
@@ -40,8 +39,14 @@ unfolding has_current
 any-current job [] = refl
 any-current job (r ∷ rs) = rw (any-current job rs)
 
-pub any-reached : (job edition : ℕ) (rs : List Record)
-    → list_any (λ h. eqb h.job job && leb edition h.edition) (map head_of rs) ≡ not_higher job edition rs
+-- what a head says of a job and an edition, and of a collection beside a record that is coming
+abbrev pub reaching : ℕ → ℕ → Head → Bool
+reaching job edition h = eqb h.job job && leb edition h.edition
+
+abbrev pub staying : Option ℕ → Head → Bool
+staying coming h = not (comes coming h.job) && h.current
+
+pub any-reached : (job edition : ℕ) (rs : List Record) → list_any (reaching job edition) (map head_of rs) ≡ not_higher job edition rs
 unfolding not_higher
 any-reached job edition [] = refl
 any-reached job edition (r ∷ rs) = rw (any-reached job edition rs)
@@ -52,16 +57,11 @@ sizes [] = 0
 sizes (h ∷ hs) = h.size + sizes hs
 
 pub sizes-kept : (coming : Option ℕ) (rs : List Record)
-    → sizes (filter (λ h. not (comes coming h.job) && h.current) (map head_of rs)) ≡ length (stored (those (stays coming) rs))
+    → sizes (filter (staying coming) (map head_of rs)) ≡ length (stored (those (stays coming) rs))
 unfolding those stored
 sizes-kept coming [] = refl
 sizes-kept coming (r ∷ rs) =
     by_test (stays coming r) (λ e. rw (e, length-append, sizes-kept coming rs)) (λ e. rw (e, sizes-kept coming rs))
-
-pub sum-kept : (coming : Option ℕ) (rs : List Record)
-    → sum_by (λ h. h.size) (filter (λ h. not (comes coming h.job) && h.current) (map head_of rs))
-    ≡ length (stored (those (stays coming) rs))
-sum-kept coming rs = sym (is_sum_by sizes (λ h. h.size) refl (λ _ _. refl) _) ∙ sizes-kept coming rs
 
 pub those-length : (test : Record → Bool) (rs : List Record) → length (stored (those test rs)) ≤ length (stored rs)
 unfolding those stored
@@ -113,13 +113,6 @@ module _ (job x : ℕ) {left : List Head} where
 
     pub sizes_on : sizes left ≡ h.size + sizes hs
     sizes_on = rw e
-
--- what a head says of a job and an edition, and of a collection beside a record that is coming
-abbrev pub reaching : ℕ → ℕ → Head → Bool
-reaching job edition h = eqb h.job job && leb edition h.edition
-
-abbrev pub staying : Option ℕ → Head → Bool
-staying coming h = not (comes coming h.job) && h.current
 
 -- a walk that asks each head for a test, or adds up the sizes of those that pass it, at the heads that it has still before it
 module _ (test : Head → Bool) {left : List Head} where
