@@ -72,12 +72,14 @@ tool: | $(built)
 	cp $(built)/cargo/$(rust_target)/release/luossavin $(built)/cargo/$(rust_target)/release/luossavin-opener $(built)
 
 # Without the tool, which is a member of its workspace; with what cargo asks of a folder of packages.
+package = target/rust
+
 crate:
-	rm -rf target/rust
-	mkdir -p target/rust
-	cp -R rust/src rust/asm rust/README.md rust/LICENSE rust/NOTICE target/rust
-	sed '/^# The tool/,$$d' rust/Cargo.toml >target/rust/Cargo.toml
-	echo '{"files":{}}' >target/rust/.cargo-checksum.json
+	rm -rf $(package)
+	mkdir -p $(package)
+	cp -R rust/src rust/asm rust/README.md rust/LICENSE rust/NOTICE $(package)
+	sed '/^# The tool/,$$d' rust/Cargo.toml >$(package)/Cargo.toml
+	echo '{"files":{}}' >$(package)/.cargo-checksum.json
 
 endif
 
