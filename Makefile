@@ -71,9 +71,10 @@ tool: | $(built)
 	    --manifest-path rust/Cargo.toml -p luossavin-tool -p luossavin-opener --target $(rust_target) --target-dir $(built)/cargo
 	cp $(built)/cargo/$(rust_target)/release/luossavin $(built)/cargo/$(rust_target)/release/luossavin-opener $(built)
 
-# Without the tool, which is a member of its workspace; with what cargo asks of a folder of packages.
+# where `make crate` puts the package
 package = target/rust
 
+# Without the tool, which is a member of its workspace; with what cargo asks of a folder of packages.
 crate:
 	rm -rf $(package)
 	mkdir -p $(package)
